@@ -9,6 +9,7 @@ import random
 from generated import Run, up
 from generated import case as without_input
 from padded import lines_of
+from saved import saved_mark
 
 DATA = pathlib.Path(__file__).resolve().parent.parent / "crates/ob_cases/data"
 WIDTH, PIECE = 17, 8192
@@ -649,7 +650,7 @@ def lasting():
 
     saved = ["M 1 1 49", "W 1 0", "M 2 2 1056", "W 2 0", "W 2 1", "M 3 1 49", "R 1 0", "R 1 0", "W 3 0", "M 4 2 1056", "W 4 0", "W 4 1", "D 1", "D 2"]
     opened = ["O 4 2 1056", "R 4 0", "R 4 1", "O 3 1 49"]
-    mark = f"saved 4 2 5 1 {SALTS[0]}"
+    mark = saved_mark(4, 2, 5, 1, SALTS[0])
     own, again = asked(0, 3, 5)[0], asked(9, 3, 5)[0]
     cut, ran = asked(9, 3, 5, 4)
     cases = [

@@ -39,9 +39,10 @@ def stream(seed):
         start[12] += 1
 
 
-def draws(secret):
+def draws(secret, salt=None):
     """Two words each, the low one first."""
-    words = stream(hmac.new(bytes.fromhex(secret), b"oblidb draw", hashlib.sha256).digest())
+    label = b"oblidb run draw" + bytes.fromhex(salt) if salt else b"oblidb draw"
+    words = stream(hmac.new(bytes.fromhex(secret), label, hashlib.sha256).digest())
     while True:
         low = next(words)
         yield low + (next(words) << 32)
@@ -93,9 +94,10 @@ class Index:
 class Session:
     """A session, line by line: each statement with what it asks and answers."""
 
-    def __init__(self, name, words, slots=32, secret=ZEROS, may_fill=False, **settings):
-        self.run, self.slots, self.draws, self.may_fill = Run(**settings), slots, draws(secret), may_fill
+    def __init__(self, name, words, slots=32, secret=ZEROS, salt=None, may_fill=False, **settings):
+        self.run, self.slots, self.draws, self.may_fill = Run(**settings), slots, draws(secret, salt), may_fill
         self.name, self.words, self.changes = name, words, []
+        self.keeper = ["keeper in use", f"salts {salt}"] if salt else []
         self.lines = [f"key {secret}"] if secret != ZEROS else []
         self.status, self.indexes, self.flats = 0, {}, {}
 
@@ -218,7 +220,7 @@ class Session:
     def case(self, *more):
         asked = self.run.asked
         words = [*self.words.split(), *(["--meddle", ",".join(self.changes)] if self.changes else [])]
-        head = [f"case {self.name}", *([f"words {' '.join(words)}"] if words else [])]
+        head = [f"case {self.name}", *self.keeper, *([f"words {' '.join(words)}"] if words else [])]
         wants = [*([] if asked else ["@"]), f"total {len(asked)}", f"status {self.status}"]
         return "\n".join([*head, *self.lines, *wants, *more, ""])
 
@@ -322,6 +324,22 @@ def all_kinds():
     s.drop("o")
     s.refuses("SELECT * FROM o WHERE id = 1;", answer="E02 no table")
     return s.case()
+
+
+def salted(salt):
+    """By the salts of two runs other leaves are read than without one, though the statements are the same."""
+    s = Session(f"an index by {f'the salt {salt}' if salt else 'no salt'}", "--buffer 64 --stash 4", 4, salt=salt)
+    s.create("o", 16)
+    for key in (3, 1, 4, 15):
+        s.insert("o", key, key * key)
+        s.select("o", key)
+    return s
+
+
+def by_salts():
+    found = [salted(salt) for salt in (None, "0a" * 16, "ff" * 16)]
+    assert len({tuple(s.run.asked) for s in found}) == len(found)
+    return [s.case() for s in found]
 
 
 def in_the_stash():
@@ -647,7 +665,7 @@ def filled(s):
 
 
 def main():
-    cases = [worked(), each_kind(), ends_of_keys(), one_key(), other_columns(), all_kinds(), *in_the_stash(), thousand()]
+    cases = [worked(), each_kind(), ends_of_keys(), one_key(), other_columns(), all_kinds(), *by_salts(), *in_the_stash(), thousand()]
     cases += [*packed(), *plans(), two_and_a_table(), many_tables(), needs_key(), *limits(), failed_creates(), *others_change()]
     cases += [full(), *full_by()]
     HEAD = """# Sessions with indexes, of three of which each access fails in turn, and each block that is read is changed just before.

@@ -1,10 +1,12 @@
 #!/usr/bin/env python3
 """Writes crates/ob_cases/data/saved.case: runs that save their tables, and die. A session of each statement, and of a batch of
 INSERTs, with 1 and 16 rows in a block, whose store fails from each of its accesses on, whose keeper fails at each of its calls,
-which ends its run, and whose answer is never taken; and the run that goes on over what was left. And runs over generated text.
+which ends its run, and whose answer is never taken; and the run that goes on over what was left. Runs under another secret over
+what was left. And runs over generated text.
 What is asked, answered and left is counted from docs/SPECIFICATION.md; nothing that the program answers goes into it. It needs
 python3 alone, and takes a second.
 """
+import hmac
 import pathlib
 
 from generated import Run, case
@@ -13,6 +15,17 @@ DATA = pathlib.Path(__file__).resolve().parent.parent / "crates/ob_cases/data"
 SALTS = [f"{n:02x}" * 16 for n in (0, 255, 7, 8)]
 WIDTH, CLOSING = 17, 1056
 WORDS = "--save --pack {pack}"
+SECRET, OTHER = "00" * 32, "00" * 31 + "01"
+
+
+def check_of(salt, secret=SECRET):
+    """The check value that a secret has for a salt."""
+    return hmac.new(bytes.fromhex(secret), b"oblidb run check" + bytes.fromhex(salt), "sha256").digest()[:16].hex()
+
+
+def saved_mark(region, blocks, number, pack, salt, secret=SECRET):
+    """The mark of tables that were saved so."""
+    return f"saved {region} {blocks} {number} {pack} {salt} {check_of(salt, secret)}"
 
 
 class Died(Exception):
@@ -63,12 +76,12 @@ class Left:
 
 
 class Saved(Run):
-    """A run that saves its tables, from what an earlier one left. Its store dies at an access, its keeper at a call, or the
-    sink of its answers does."""
+    """A run that saves its tables under a secret, from what an earlier one left. Its store dies at an access, its keeper at a
+    call, or the sink of its answers does."""
 
-    def __init__(self, pack, left, salts, dies=None, fault=None, unanswered=None):
+    def __init__(self, pack, left, salts, dies=None, fault=None, unanswered=None, secret=SECRET):
         super().__init__(pack=pack)
-        self.left, self.salts = left, salts
+        self.left, self.salts, self.secret = left, salts, secret
         self.dies, self.fault, self.unanswered = dies, fault, unanswered
         self.tables = dict(left.tables)
         self.next, self.writes, self.closing = left.numbers()
@@ -117,6 +130,9 @@ class Saved(Run):
         self.call()
         self.call()
         self.salt = self.salts.pop(0)
+        word, *rest = self.left.mark.split()
+        if word == "saved" and rest[5] != check_of(rest[4], self.secret):
+            raise Stop("! key", 2)
         if self.left.mark == "fresh":
             self.hold("begun")
         if self.closing:
@@ -216,7 +232,7 @@ class Saved(Run):
                 self.write(region, place)
         except Died:
             raise Stop("! store fault", 3)
-        self.hold(f"saved {region} {blocks} {number} {self.pack} {self.salt}")
+        self.hold(saved_mark(region, blocks, number, self.pack, self.salt, self.secret))
         for gone in (self.old, self.closing):
             if gone:
                 self.asked.append(f"D {gone}")
@@ -271,7 +287,7 @@ class Saved(Run):
 
     def lines(self):
         """The lines of the run."""
-        lines = [f"words {self.words}"]
+        lines = [f"words {self.words}", *([f"key {self.secret}"] if self.secret != SECRET else [])]
         for head, n in (("dies", self.dies), ("writes fail", self.unanswered)):
             lines += [f"{head} {n}"] if n else []
         body = [line for group in self.groups for line in group]
@@ -327,7 +343,7 @@ class SavedText(Run):
         self.asked.append(f"M {region} {blocks} {CLOSING}")
         for place in range(blocks):
             self.write(region, place)
-        self.mark = f"saved {region} {blocks} {number} {self.pack} {SALTS[0]}"
+        self.mark = saved_mark(region, blocks, number, self.pack, SALTS[0])
         for gone in (self.old, self.closing):
             if gone:
                 super().discard(gone)
@@ -429,6 +445,16 @@ def changed(pack):
     return "\n".join([*head, *first.lines(), "then", *body[:at], f"mark {before}", *body[at:], *each]) + "\n"
 
 
+def locked(pack):
+    """A run under another secret over saved tables, which asks for nothing and leaves the mark; then one under theirs."""
+    salts, look = list(SALTS), [("select", "t"), ("insert", "t", 7, 70)]
+    first = Saved(pack, Left(), salts).serve([("create", "t", 4 if pack == 1 else 20), ("insert", "t", 1, 10)])
+    other = Saved(pack, first.left, salts, secret=OTHER).serve(look)
+    after = Saved(pack, other.left, salts).serve(look)
+    head = [f"case another secret over saved tables, {pack} rows in a block", "keeper fresh", f"salts {', '.join(SALTS)}"]
+    return "\n".join([*head, *first.lines(), "then", *other.lines(), "then", *after.lines()]) + "\n"
+
+
 def generated(name, start, rows, words="", **settings):
     """A run over generated text, of which the summary and the mark are told."""
     run = SavedText(**settings)
@@ -440,6 +466,7 @@ def generated(name, start, rows, words="", **settings):
 def main():
     cases = [one for pack in (1, 16) for it in sessions(pack) for one in it.cases(pack)]
     cases += [changed(pack) for pack in (1, 16)]
+    cases += [locked(pack) for pack in (1, 16)]
     cases += [
         generated("generated text", 0, 1),
         generated("generated text, three rows in a block", 5, 40, " --buffer 10 --pack 3", buffer=10, pack=3),

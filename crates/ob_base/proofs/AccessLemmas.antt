@@ -122,10 +122,7 @@ writes_open q x y (Open a b c ∷ rest) = writes_open q x y rest
 -- how many regions one more access makes
 abbrev pub made : Access → ℕ
 made (Make q blocks len) = 1
-made (Read q x) = 0
-made (Write q x) = 0
-made (Discard q) = 0
-made (Open q blocks len) = 0
+made other = 0
 
 pub makes_more : (asked : List Access) (a : Access) → makes (asked ++ a ∷ []) ≡ makes asked + made a
 unfolding makes
@@ -296,18 +293,12 @@ write_named (Open a blocks len ∷ rest) (suc i) q x is = write_named rest i q x
 some_before : (a : Access) (rest : List Access) (j q x : ℕ) → a ≡ Write q x → 0 ≡ writes (take (suc j) (a ∷ rest)) → ⊥
 unfolding writes
 some_before (Write a b) rest j q x is none = omega (arith, none)
-some_before (Make a b c) rest j q x is none = cc is
-some_before (Read a b) rest j q x is none = cc is
-some_before (Discard a) rest j q x is none = cc is
-some_before (Open a blocks len) rest j q x is none = cc is
+some_before other rest j q x is none = cc is
 
 one_less : (a : Access) (xs ys : List Access) → writes (a ∷ xs) ≡ writes (a ∷ ys) → writes xs ≡ writes ys
 unfolding writes
 one_less (Write a b) xs ys same = omega (arith, same)
-one_less (Make a b c) xs ys same = same
-one_less (Read a b) xs ys same = same
-one_less (Discard a) xs ys same = same
-one_less (Open a blocks len) xs ys same = same
+one_less other xs ys same = same
 
 -- no two writes have as many before them
 pub write_apart : (asked : List Access) (i j q x r y : ℕ) → slice_get asked i ≡ Some (Write q x) → slice_get asked j ≡ Some (Write r y) → writes (take i asked) ≡ writes (take j asked) → i ≡ j

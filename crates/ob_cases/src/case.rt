@@ -2,7 +2,7 @@
 ghost use Rattle.std.specs.Prelude.{◌≤◌, IfOk};
 ghost use Rattle.ob_reopen.specs.Keepers.{AreSaltBytes, IsMark};
 
-use ob_base::Mark;
+use ob_reopen::Mark;
 use std::alloc::{AllocError, AllocFailed, Global};
 
 /// The first line of an input where a case names none: a secret of zeros.
@@ -395,7 +395,7 @@ pub fn push_case(cases: &mut Vec<Case>, case: Case) -> Result<(), LineErr> {
 }
 
 /// The mark that a text spells: `fresh`, `in use`, `begun`, `closed REGION BLOCKS NUMBER PACK`, or
-/// `saved REGION BLOCKS NUMBER PACK SALT`.
+/// `saved REGION BLOCKS NUMBER PACK SALT CHECK`.
 pub fn mark_of(text: &str) -> Result<Mark, LineErr>
     ensures { IfOk result IsMark }
 {
@@ -436,20 +436,24 @@ fn closed_of(text: &str) -> Result<Mark, LineErr>
     })
 }
 
-// That of a run that saved its tables, by its numbers and its salt.
+// That of a run that saved its tables, by its numbers, its salt and the check value of that.
 fn saved_of(text: &str) -> Result<Mark, LineErr>
     ensures { IfOk result IsMark }
 {
     let (region, rest) = numbered(text, MOST)?;
     let (blocks, rest) = numbered(rest, 65)?;
     let (first, rest) = numbered(rest, MOST)?;
-    let (pack, salt) = numbered(rest, 16)?;
+    let (pack, rest) = numbered(rest, 16)?;
+    let Some((salt, check)) = rest.split_once(' ') else {
+        return Err(LineErr::Form);
+    };
     Ok(Mark::Saved {
         region,
         blocks: blocks as u32,
         number: first,
         pack: pack as u8,
         salt: salt_of(salt)?,
+        check: salt_of(check)?,
     })
 }
 
@@ -463,7 +467,7 @@ fn numbered(text: &str, most: u64) -> Result<(u64, &str), LineErr>
     }
 }
 
-// A salt of 32 hexadecimal digits.
+// A salt, or a check value, of 32 hexadecimal digits.
 fn salt_of(digits: &str) -> Result<[u8; 16], LineErr>
     ensures { IfOk result AreSaltBytes }
 {

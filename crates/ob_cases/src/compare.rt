@@ -1,6 +1,6 @@
 //! What came of a run, beside what was wanted.
 use crate::case::{LineErr, Part, Run};
-use ob_base::Mark;
+use ob_reopen::Mark;
 use std::alloc::{AllocError, Global};
 
 /// What came of a run.

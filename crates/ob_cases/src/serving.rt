@@ -3,10 +3,10 @@ ghost use Rattle.std.specs.Prelude.{◌≡◌, []};
 
 use crate::case::{Case, LineErr, Part, Run, Taking, mark_of};
 use crate::compare::{Came, difference};
-use ob_base::{Mark, NoMemory};
+use ob_base::NoMemory;
 use ob_io::{MemSink, MemSource, Sink, Source};
 use ob_meddle::{Act, ChangesErr, Meddle, MeddledStore, parse_changes};
-use ob_reopen::{Keeper, MemKeeper, Salts};
+use ob_reopen::{Keeper, Mark, MemKeeper, Salts};
 use ob_shell::{keep_top, meddle_top, save_top};
 use ob_store::{BlockStore, Lasting, Saving};
 use std::alloc::Global;
@@ -160,10 +160,11 @@ fn saves(run: &Run) -> bool {
     found
 }
 
-// One of the two, by the words of a run.
+// One of the two, by the words of a run, and by whether the case lists salts.
 fn serve_resting<I: Source, O: Sink, T: Sink, S: Saving, K: Salts>(
     alloc: Global,
     run: &Run,
+    salted: bool,
     input: &mut I,
     out: &mut O,
     trace: &mut T,
@@ -173,7 +174,7 @@ fn serve_resting<I: Source, O: Sink, T: Sink, S: Saving, K: Salts>(
     requires { (S.state store.old).asked ≡ [] }
 {
     let words = words_of(alloc, run)?;
-    if saves(run) {
+    if salted || saves(run) {
         Ok(serve_saved(alloc, &words, input, out, trace, store, keeper))
     } else {
         Ok(serve_kept(alloc, &words, input, out, trace, store, keeper))
@@ -216,10 +217,11 @@ fn mark_behind(run: &Run, keeper: &mut MemKeeper) -> Option<Mark> {
     }
 }
 
-// Serves a run over what rests of a store, with a keeper.
+// Serves a run over what rests of a store, with a keeper, which has salts to draw or hasn't.
 fn serve_over(
     alloc: Global,
     run: &Run,
+    salted: bool,
     unordered: bool,
     store: MeddledStore,
     keeper: &mut MemKeeper,
@@ -229,7 +231,7 @@ fn serve_over(
     let mut out = sink_of(alloc, &run.writes)?;
     let mut trace = sink_of(alloc, &run.traces)?;
     let status = serve_resting(
-        alloc, run, &mut input, &mut out, &mut trace, &mut store, keeper,
+        alloc, run, salted, &mut input, &mut out, &mut trace, &mut store, keeper,
     )?;
     let came = Came {
         answers: out.bytes(),
@@ -264,8 +266,9 @@ fn serve_all(alloc: Global, case: &Case, held: &str) -> Result<Served, LineErr> 
     let mut keeper = keeper_of(alloc, case, held)?;
     let mut store = MeddledStore::new(alloc, Vec::new(alloc));
     let mut last = None;
+    let salted = case.salts.len() > 0;
     for run in &case.runs {
-        let (served, rest) = serve_over(alloc, run, case.unordered, store, &mut keeper)?;
+        let (served, rest) = serve_over(alloc, run, salted, case.unordered, store, &mut keeper)?;
         if served.differs.is_some() {
             return Ok(served);
         }

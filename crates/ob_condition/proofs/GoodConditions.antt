@@ -50,11 +50,9 @@ column_first c w h = begins_key name_of (λ a. G.Either (G.Bind (G.Token (key M.
 
 module _ (text : List ℕ) where
   no_sign : (x : Lexeme) (place : ℕ) (v : Literal) → plain_literal text x place ≡ Some v → is_some (marked sign_mark x) ≡ false
-  no_sign (L.Mark m) place v e = absurd (cc e)
-  no_sign (L.Name n) place v e = absurd (cc e)
   no_sign (L.Number n) place v e = refl
   no_sign L.Text place v e = refl
-  no_sign L.Bad place v e = absurd (cc e)
+  no_sign other place v e = absurd (cc e)
 
   pub good_constant : (F : Token → Type 0) → ((t : Token) × F t) → Good (Constant text) F (constant text)
   unfolding constant

@@ -14,10 +14,7 @@ of x = record { lexeme = x; from = 0; to = 0 }
 
 pub is_mark : (m : Mark) (x : Lexeme) → is m x ≡ true → x ≡ L.Mark m
 is_mark m (L.Mark n) e = ap L.Mark (sym (same_true the_type tt m n e))
-is_mark m (L.Name n) e = absurd (cc e)
-is_mark m (L.Number n) e = absurd (cc e)
-is_mark m L.Text e = absurd (cc e)
-is_mark m L.Bad e = absurd (cc e)
+is_mark m other e = absurd (cc e)
 
 -- what has a value that this mark doesn't have is not this mark
 pub apart : {V : Type 0} (p : Lexeme → Option V) (m : Mark) → p (L.Mark m) ≡ None → (x : Lexeme) (v : V) → p x ≡ Some v → is m x ≡ false
@@ -28,10 +25,7 @@ apart {V} p m none x v e = go (is m x) refl where
 
 pub apart_name : {V : Type 0} (p : Lexeme → Option V) → ((n : List ℕ) → p (L.Name n) ≡ None) → (x : Lexeme) (v : V) → p x ≡ Some v → is_some (name_in x) ≡ false
 apart_name p none (L.Name n) v e = let some : Some v ≡ None = sym e ∙ none n in absurd (cc some)
-apart_name p none (L.Mark m) v e = refl
-apart_name p none (L.Number n) v e = refl
-apart_name p none L.Text v e = refl
-apart_name p none L.Bad v e = refl
+apart_name p none other v e = refl
 
 -- a token that is not this mark doesn't begin what begins with it
 pub no_key : (m : Mark) (x : Lexeme) → is m x ≡ false → is_some (flag (is m x)) ≡ false

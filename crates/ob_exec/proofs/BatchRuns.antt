@@ -1,38 +1,25 @@
 -- A batch of INSERTs, from the engine's own share of it and what follows that.
-use Rattle.std.proofs.Common.{◌≡◌, ◌-◌, Bool, true, false, List, length, None, Result, Ok, Err, refl, sym, subst}
-use Rattle.std.specs.Prelude.{IfOk, MatchResult, ⊤}
-use Rattle.ob_base.specs.declared.seen.Seen.{Seen}
-use Rattle.ob_mean.specs.Verdict.{Draws, Tables}
-use Rattle.ob_reopen.specs.Keepers.{KeeperState}
-use Rattle.ob_sql.specs.declared.stmt.Stmt.{Stmt}
-use Rattle.ob_store.specs.State.{StoreState}
-use Rattle.ob_tables.specs.Agreeing.{Agrees, count_of, public_of, replaced_of, seen_of}
+use Rattle.ob_exec.proofs.Words.{Agrees, Bool, by_fault, count_of, Draws, ended_at, Engine, Err, false, IfOk, is_due, is_fault, KeeperFault, KeeperState, length, List, None, Ok, Outcome, ReadsTrue, refl, Result, RevState, RunStop, SavesTables, SavingCause, Seen, SinkFault, StashFull, Stmt, StoreState, subst, sym, Tables, true, ◌-◌, ◌≡◌}
+use Rattle.std.specs.Prelude.{MatchResult, ⊤}
+use Rattle.ob_tables.specs.Agreeing.{public_of, replaced_of, seen_of}
 use Rattle.ob_tables.specs.Batch.{AreBatch, AreServedWith, ServesBatch, outcomes_behind}
-use Rattle.ob_tables.specs.Running.{IsSilent, is_fault}
-use Rattle.ob_tables.specs.Telling.{ReadsTrue}
-use Rattle.ob_tables.specs.declared.engine.Engine.{Engine}
-use Rattle.ob_tables.specs.declared.stop.RunStop.{RunStop}
-use Rattle.ob_tables.specs.declared.stop.RunStop.TheVariants.{KeeperFault, NoMemory, SinkFault, StashFull, StoreFault, Tampered}
-use Rattle.ob_vault.specs.State.{RevState}
-use Rattle.ob_verdict.specs.Outcomes.{by_fault}
-use Rattle.ob_verdict.specs.declared.outcome.Outcome.{Outcome}
+use Rattle.ob_tables.specs.Running.{IsSilent}
+use Rattle.ob_tables.specs.declared.stop.RunStop.TheVariants.{NoMemory, StoreFault, Tampered}
 use Rattle.ob_exec.proofs.EmittedRuns.{reads_before}
 use Rattle.ob_exec.proofs.FollowedRuns.{carried_then}
 use Rattle.ob_exec.proofs.Shares.{share_batch}
-use Rattle.ob_exec.specs.Behind.{IsBegun, SavesBehind, ended_at, is_due}
+use Rattle.ob_exec.specs.Behind.{IsBegun, SavesBehind}
 use Rattle.ob_exec.specs.Ran.{ShowsNothing}
 use Rattle.ob_exec.specs.RanBatch.{RanBatch}
 use Rattle.ob_exec.specs.declared.saving.Begun.{Begun}
-use Rattle.ob_exec.specs.Saving.{MaySave, SavesTables, SavingCause}
+use Rattle.ob_exec.specs.Saving.{MaySave}
 
 -- tables that aren't saved are so by no emitter
 silent_stop : {R : Type 0} (r : RunStop) (e : Engine R) (s t : StoreState) (k0 k1 : KeeperState) → SavingCause r e s t k0 k1 → IsSilent (Err r)
-silent_stop StoreFault e s t k0 k1 cause = tt
-silent_stop NoMemory e s t k0 k1 cause = tt
-silent_stop KeeperFault e s t k0 k1 cause = tt
 silent_stop SinkFault e s t k0 k1 cause = absurd cause
 silent_stop StashFull e s t k0 k1 cause = absurd cause
 silent_stop (Tampered q x) e s t k0 k1 cause = absurd cause
+silent_stop other e s t k0 k1 cause = tt
 
 module _ {R : Type 0} (state : R → RevState) (first : Stmt) (rest : List Stmt) (outcomes : List Outcome) (old : Engine R) (s : StoreState) where
   -- what they are answered, and what is seen

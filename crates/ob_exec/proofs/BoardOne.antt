@@ -1,36 +1,21 @@
 -- A statement before its flight: by what it goes, and the rows that fit it.
-use Rattle.std.proofs.Common.{◌≡◌, inl, inr, ◌≤◌, ◌-◌, ◌^◌, min, ℕ, Bool, ◌||◌, List, [], ◌∷◌, length, Option, None, refl, sym, ◌∙◌, ap, subst, arith}
-use Rattle.std.specs.Prelude.{nat_le, nat_lt}
-use Rattle.std.proofs.lemmas.Bool.{cases_lt, le-leb, lt-leb}
-use Rattle.ob_base.specs.declared.config.Plan.TheVariants.{Small}
+use Rattle.ob_exec.proofs.Words.{ap, arith, Bool, cases_lt, Columns, Create, Delete, early_of, FitShares, flight_public, Heading, headings_of, inl, inr, Insert, is_late, IsFound, IsSized, le-leb, length, limits_of, List, MayFlyBy, nat_le, nat_lt, None, Option, Public, refl, SelectsFromOne, skeleton, Small, Source, Stmt, subst, sym, Update, width, ℕ, [], ◌-◌, ◌^◌, ◌||◌, ◌∙◌, ◌∷◌, ◌≡◌, ◌≤◌}
+use Rattle.std.proofs.Common.{min}
+use Rattle.std.proofs.lemmas.Bool.{lt-leb}
 use Rattle.ob_base.specs.declared.config.Planner.{Planner}
 use Rattle.ob_base.specs.declared.config.Planner.TheVariants.{Forced}
-use Rattle.ob_base.specs.declared.config.Public.{Public}
 use Rattle.ob_base.specs.declared.refusal.Refusal.TheVariants.{NoTable, NameTaken, NoColumn, WrongType, ValueRange, Limit, KeyRule, JoinKey, NeedsKey}
-use Rattle.ob_base.specs.declared.schema.Heading.{Heading}
 use Rattle.ob_base.specs.declared.skeleton.Skeleton.TheVariants.{Rows as RowsSkeleton}
-use Rattle.ob_base.specs.declared.skeleton.Source.{Source}
 use Rattle.ob_base.specs.declared.skeleton.Source.TheVariants.{Table as OneTable, Join}
 use Rattle.ob_base.specs.Plans.{IsPadded}
-use Rattle.ob_base.specs.Schemas.{Columns, width}
-use Rattle.ob_base.specs.Stored.{headings_of}
 use Rattle.ob_flat.specs.declared.flat.Flat.{Flat}
-use Rattle.ob_flat.specs.Flats.{IsSized}
 use Rattle.ob_flat.specs.Words.{FitBlock}
-use Rattle.ob_mean.specs.Refusals.{Limits, breaks_key_rule, first_holding, has_wrong_type, is_out_of_range, is_past_limit, joins_off_key, joins_past, lacks_column, lacks_table, limits_of, listed, needs_key, takes_name}
-use Rattle.ob_mean.specs.Verdict.{is_late}
+use Rattle.ob_mean.specs.Refusals.{Limits, breaks_key_rule, first_holding, has_wrong_type, is_out_of_range, is_past_limit, joins_off_key, joins_past, lacks_column, lacks_table, listed, needs_key, takes_name}
 use Rattle.ob_reopen.specs.Limits.{IsHeading}
-use Rattle.ob_script.specs.FlightLaws.{SelectsFromOne}
-use Rattle.ob_script.specs.Flights.{flight_public}
 use Rattle.ob_select.specs.Settings.{AreSettings}
-use Rattle.ob_sql.specs.Skeleton.{skeleton}
-use Rattle.ob_sql.specs.declared.stmt.Stmt.{Stmt}
-use Rattle.ob_sql.specs.declared.stmt.Stmt.TheVariants.{Create, Insert, Update, Delete, Drop as DropTable, SelectRows as RowsStmt, SelectTotals as TotalsStmt}
+use Rattle.ob_sql.specs.declared.stmt.Stmt.TheVariants.{Drop as DropTable, SelectRows as RowsStmt, SelectTotals as TotalsStmt}
 use Rattle.ob_stages.proofs.GroupsEnds.{share_few}
-use Rattle.ob_tables.specs.Engines.{IsFound}
 use Rattle.ob_vault.specs.Rows.{Wide}
-use Rattle.ob_exec.specs.Boarding.{FitShares, MayFlyBy}
-use Rattle.ob_exec.specs.InFlight.{early_of}
 
 -- a count that stands at the last value of a u64 is late
 pub late_same : (m n : ℕ) → n ≡ min m (2 ^ 64 - 1) → nat_le (2 ^ 63) n ≡ is_late m
@@ -46,16 +31,12 @@ from_one (Join a b on equals) list is = absurd is
 
 -- ---- it is refused for the same by what its flight goes by
 pasts_same : (limits other : Limits) (hs : List Heading) (stmt : Stmt) → SelectsFromOne (skeleton stmt) → is_past_limit limits hs stmt ≡ is_past_limit other hs stmt
-pasts_same limits other hs (Create table columns capacity shape) is = absurd is
-pasts_same limits other hs (Insert table columns values) is = absurd is
-pasts_same limits other hs (Update table sets cond) is = absurd is
-pasts_same limits other hs (Delete table cond) is = absurd is
-pasts_same limits other hs (DropTable table) is = absurd is
 pasts_same limits other hs (RowsStmt s) is =
     let one = from_one s.source s.list is in
     ap (λ (source : Source). nat_lt 32 (length (listed s)) || joins_past limits hs source) one.1
     ∙ sym (ap (λ (source : Source). nat_lt 32 (length (listed s)) || joins_past other hs source) one.1)
 pasts_same limits other hs (TotalsStmt s) is = refl
+pasts_same limits other hs another is = absurd is
 
 pub early_same : (late : Bool) (n : ℕ) (p : Public) (stmt : Stmt) → SelectsFromOne (skeleton stmt) → early_of late (flight_public n p) stmt ≡ early_of late p stmt
 early_same late n p stmt is =

@@ -1,35 +1,23 @@
 -- A SELECT of the rows of a table before its flight.
-use Rattle.std.proofs.Common.{◌≡◌, ◌≤◌, ◌^◌, ℕ, Bool, false, List, [], ◌++◌, length, Option, Some, None, refl, sym, ◌∙◌, ap, subst, arith, append-nil}
-use Rattle.ob_base.specs.declared.config.Public.{Public}
+use Rattle.ob_exec.proofs.Words.{ap, append-nil, arith, Bool, Columns, Condition, early_of, false, FitShares, headings_of, is_access, IsAboard, IsFound, IsSized, length, limits_of, List, MayFlyBy, None, Option, printed_places, Public, refl, RowsAt, select_columns, Selection, Some, Source, source_tables, subst, sym, where_at, width, ℕ, [], ◌++◌, ◌^◌, ◌∙◌, ◌≡◌, ◌≤◌}
 use Rattle.ob_base.specs.declared.schema.Shape.TheVariants.{Flat as FlatShape}
 use Rattle.ob_base.specs.declared.skeleton.Skeleton.TheVariants.{Rows as RowsSkeleton}
-use Rattle.ob_base.specs.declared.skeleton.Source.{Source}
 use Rattle.ob_base.specs.declared.skeleton.Source.TheVariants.{Table as OneTable}
-use Rattle.ob_base.specs.Schemas.{Columns, width}
-use Rattle.ob_base.specs.Stored.{headings_of}
 use Rattle.ob_emit.specs.Emitting.{AreColumns}
-use Rattle.ob_flat.specs.Flats.{IsSized}
 use Rattle.ob_flat.specs.Scans.{MayScan}
 use Rattle.ob_flat.specs.declared.flat.Flat.{Flat}
-use Rattle.ob_mean.specs.Conditions.{where_at}
-use Rattle.ob_mean.specs.Refusals.{limits_of, listed, source_tables}
-use Rattle.ob_mean.specs.Replay.{is_access}
-use Rattle.ob_mean.specs.Step.{printed_places, select_columns}
-use Rattle.ob_row.specs.Condition.{Condition}
-use Rattle.ob_select.specs.Selecting.{Selection}
+use Rattle.ob_mean.specs.Refusals.{listed}
 use Rattle.ob_sql.specs.declared.stmt.SelectRows.{SelectRows}
 use Rattle.ob_sql.specs.declared.stmt.Stmt.TheVariants.{SelectRows as RowsStmt}
 use Rattle.ob_stages.specs.RowsHolds.{BoardsRows, FitRows, RowsHold}
-use Rattle.ob_stages.specs.RowsStates.{IsFlown, IsOf, RowsAt, boarded_rows, known_by, rows_at, rows_skeleton, selection_by, table_blocks, whole_length}
+use Rattle.ob_stages.specs.RowsStates.{IsFlown, IsOf, boarded_rows, known_by, rows_at, rows_skeleton, selection_by, table_blocks, whole_length}
 use Rattle.ob_stages.specs.declared.flight.Flight.TheVariants.{Rows}
 use Rattle.ob_stages.specs.declared.rows.RowsFlight.{RowsFlight}
 use Rattle.ob_stages.proofs.RowsGoing.{whole_most}
-use Rattle.ob_tables.specs.Engines.{IsFound}
 use Rattle.ob_tables.proofs.SourceColumns.{listed_few}
 use Rattle.ob_tables.proofs.TableLemmas.{stored_found}
 use Rattle.ob_verdict.proofs.AcceptedProof.{places_fit}
-use Rattle.ob_exec.specs.Boarding.{FitShares, IsAboard, MayFlyBy, seen_if}
-use Rattle.ob_exec.specs.InFlight.{early_of}
+use Rattle.ob_exec.specs.Boarding.{seen_if}
 use Rattle.ob_exec.proofs.BoardOne.{block_fit, flat_sized, flight_settings, wide_less}
 use Rattle.ob_exec.proofs.RowsOfTable.{schema_of, shape_of}
 

@@ -1,25 +1,11 @@
 -- A SELECT of totals before its flight, and a statement that is refused before any access.
-use Rattle.std.proofs.Common.{◌≡◌, ◌≤◌, ◌-◌, ◌^◌, ℕ, Bool, List, [], ◌++◌, Option, None, refl, sym, ◌∙◌, ap, subst, arith, append-nil}
-use Rattle.std.specs.Option.{option_map_or}
-use Rattle.ob_base.specs.declared.config.Public.{Public}
-use Rattle.ob_base.specs.declared.schema.Heading.{Heading}
+use Rattle.ob_exec.proofs.Words.{allowed, ap, append-nil, arith, blocks_few, Bool, buffered, Columns, Condition, count_part, early_of, extent_of, FitShares, flight_public, Heading, heading_found, headings_of, IsAboard, IsFound, IsSized, limits_of, List, MayFlyBy, None, Option, option_map_or, Public, refl, Stored, subst, sym, where_at, World, ℕ, [], ◌++◌, ◌-◌, ◌^◌, ◌∙◌, ◌≡◌, ◌≤◌}
 use Rattle.ob_base.specs.declared.schema.Shape.TheVariants.{Flat as FlatShape}
-use Rattle.ob_base.specs.Limits.{buffered}
-use Rattle.ob_base.specs.Schemas.{Columns}
-use Rattle.ob_base.specs.Stored.{Stored, headings_of}
-use Rattle.ob_flat.specs.Flats.{IsSized}
 use Rattle.ob_flat.specs.Scans.{MayScan}
 use Rattle.ob_flat.specs.Words.{FitBlock, blocks_of}
 use Rattle.ob_flat.specs.declared.flat.Flat.{Flat}
-use Rattle.ob_flat.proofs.Tables.{blocks_few}
-use Rattle.ob_mean.specs.Conditions.{where_at}
-use Rattle.ob_mean.specs.Refusals.{limits_of}
 use Rattle.ob_mean.specs.Step.{totals_columns}
-use Rattle.ob_mean.proofs.EarlyLemmas.{allowed}
-use Rattle.ob_row.specs.Condition.{Condition}
-use Rattle.ob_script.specs.Flights.{flight_public}
-use Rattle.ob_script.specs.Parts.{count_part}
-use Rattle.ob_script.specs.Script.{blocks_of as script_blocks, extent_of}
+use Rattle.ob_script.specs.Script.{blocks_of as script_blocks}
 use Rattle.ob_sql.specs.declared.stmt.SelectTotals.{SelectTotals}
 use Rattle.ob_sql.specs.declared.stmt.Stmt.TheVariants.{SelectTotals as TotalsStmt}
 use Rattle.ob_stages.specs.Groups.{FitsGroups, StartsGroups}
@@ -32,12 +18,9 @@ use Rattle.ob_stages.specs.declared.reading.Reading.{Reading}
 use Rattle.ob_stages.specs.declared.totals.TotalsFlight.{TotalsFlight}
 use Rattle.ob_stages.proofs.ReadingStarts.{starts_places}
 use Rattle.ob_stages.proofs.TotalsLemmas.{totals_fit}
-use Rattle.ob_tables.specs.Engines.{IsFound}
-use Rattle.ob_tables.proofs.FoundLemmas.{heading_found, shape_found}
+use Rattle.ob_tables.proofs.FoundLemmas.{shape_found}
 use Rattle.ob_tables.proofs.TableLemmas.{stored_found}
-use Rattle.ob_vault.specs.State.{World}
-use Rattle.ob_exec.specs.Boarding.{FitShares, IsAboard, MayFlyBy, ReadsFrom, seen_if, share_of}
-use Rattle.ob_exec.specs.InFlight.{early_of}
+use Rattle.ob_exec.specs.Boarding.{ReadsFrom, seen_if, share_of}
 use Rattle.ob_exec.proofs.BoardOne.{block_fit, flat_sized, wide_less}
 
 module _ (late : Bool) (n : ℕ) (p : Public) (by : MayFlyBy n p) (s : SelectTotals) (free : early_of late p (TotalsStmt s) ≡ None) (place : ℕ) (flat : Flat) (found : IsFound s.table place flat p.tables) where

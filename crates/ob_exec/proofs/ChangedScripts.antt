@@ -1,31 +1,20 @@
 -- The accesses of a statement that changes tables, where they are saved.
-use Rattle.std.proofs.Common.{◌≡◌, ℕ, ◌+◌, ◌++◌, cond, Bool, true, false, List, [], ◌∷◌, length, Option, Some, None, refl, sym, ◌∙◌, ap}
-use Rattle.std.specs.Prelude.{◌||◌, ◌&&◌, bytes_eq}
-use Rattle.ob_base.specs.declared.access.Access.{Access}
-use Rattle.ob_base.specs.declared.config.Public.{Public}
-use Rattle.ob_base.specs.declared.schema.Heading.{Heading}
+use Rattle.ob_exec.proofs.Words.{Access, AfterCount, allowed, ap, Bool, changes_tables, ChangesFlat, Create, Cut, Delete, early_refusal, End, false, has_table, Heading, headings_of, Insert, is_saved, is_there, Joined, left_by, length, limits_of, List, None, Option, Public, refl, run_script, Seen, Skeleton, skeleton, Some, Static, Stmt, Stored, stored_at, sym, true, until_end, Update, Whole, whole_script, ℕ, [], ◌&&◌, ◌++◌, ◌+◌, ◌||◌, ◌∙◌, ◌∷◌, ◌≡◌}
+use Rattle.std.proofs.Common.{cond}
+use Rattle.std.specs.Prelude.{bytes_eq}
 use Rattle.ob_base.specs.declared.schema.Table.{Table}
-use Rattle.ob_base.specs.declared.seen.Seen.{Seen}
-use Rattle.ob_base.specs.declared.seen.End.{End}
-use Rattle.ob_base.specs.declared.seen.End.TheVariants.{Static, Whole, AfterCount, Joined, Cut}
-use Rattle.ob_base.specs.declared.skeleton.Skeleton.{Skeleton}
 use Rattle.ob_base.specs.declared.skeleton.Skeleton.TheVariants as K
 use Rattle.ob_base.specs.Accesses.{makes}
-use Rattle.ob_base.specs.Stored.{Stored, has_table, headings_of, stored_at, stored_region, stored_regions}
-use Rattle.ob_mean.proofs.EarlyLemmas.{allowed}
+use Rattle.ob_base.specs.Stored.{stored_region, stored_regions}
 use Rattle.ob_mean.proofs.FlatLemmas.{makes_flat, region_flat}
 use Rattle.ob_mean.specs.Flats.{AreFlat}
 use Rattle.ob_mean.specs.Lawful.{selects_rows}
-use Rattle.ob_mean.specs.Refusals.{early_refusal, limits_of}
 use Rattle.ob_script.proofs.SavedParts.{run_makes, script_saved}
 use Rattle.ob_script.specs.Parts.{closing_part, insert_part, rewrite_part}
-use Rattle.ob_script.specs.Saved.{ChangesFlat, HasFlat, behind_run, left_by, run_next, run_script, whole_run}
-use Rattle.ob_script.specs.Script.{Behind, behind_change, changes_tables, closing_behind, is_saved, mutation_script, save_part, shape_script, until_end, whole_by, whole_script, with_table}
+use Rattle.ob_script.specs.Saved.{HasFlat, behind_run, run_next, whole_run}
+use Rattle.ob_script.specs.Script.{Behind, behind_change, closing_behind, mutation_script, save_part, shape_script, whole_by, with_table}
 use Rattle.ob_script.specs.Tables.{tables_after, tables_then}
-use Rattle.ob_sql.specs.Skeleton.{skeleton}
-use Rattle.ob_sql.specs.declared.stmt.Stmt.{Stmt}
-use Rattle.ob_sql.specs.declared.stmt.Stmt.TheVariants.{Create, Insert, Update, Delete, Drop as DropTable, SelectRows as RowsStmt, SelectTotals as TotalsStmt}
-use Rattle.ob_tables.proofs.FoundLemmas.{is_there}
+use Rattle.ob_sql.specs.declared.stmt.Stmt.TheVariants.{Drop as DropTable, SelectRows as RowsStmt, SelectTotals as TotalsStmt}
 use Rattle.ob_exec.specs.Ran.{is_whole}
 
 -- ---- whether tables are saved
@@ -41,21 +30,13 @@ pub saved_saves : (p : Public) (s : Skeleton) → is_saved p s ≡ true → p.sa
 saved_saves p s saved = (both_are (changes_tables s) p.save saved).1
 
 pub whole_end : (end : End) → is_whole end ≡ true → end ≡ Whole
-whole_end Static is = absurd (cc is)
 whole_end Whole is = refl
-whole_end AfterCount is = absurd (cc is)
-whole_end Joined is = absurd (cc is)
-whole_end (Cut n) is = absurd (cc is)
+whole_end other is = absurd (cc is)
 
 -- no rows are selected
 pub changes_plain : (stmt : Stmt) → changes_tables (skeleton stmt) ≡ true → selects_rows stmt ≡ false
-changes_plain (Create table columns capacity shape) changes = refl
-changes_plain (Insert table columns values) changes = refl
-changes_plain (Update table sets search) changes = refl
-changes_plain (Delete table search) changes = refl
-changes_plain (DropTable table) changes = refl
 changes_plain (RowsStmt q) changes = absurd (cc changes)
-changes_plain (TotalsStmt q) changes = refl
+changes_plain other changes = refl
 
 -- ---- the table that it changes
 -- the first of a name, behind one that has it or hasn't
@@ -130,10 +111,6 @@ closing_is p s now q saves flat whole is =
 
 -- a statement that changes no table asks the engine's share alone
 pub unsaved_whole : (p : Public) (s : Skeleton) (now : Seen) → changes_tables s ≡ false → whole_run p s now ≡ whole_script p s now
-unsaved_whole p (K.Create table cs n shape) now none = absurd (cc none)
-unsaved_whole p (K.Insert table cs) now none = absurd (cc none)
-unsaved_whole p (K.Update table cs) now none = absurd (cc none)
-unsaved_whole p (K.Delete table) now none = absurd (cc none)
-unsaved_whole p (K.Drop table) now none = absurd (cc none)
 unsaved_whole p (K.Rows source cs) now none = refl
 unsaved_whole p (K.Groups table cs key) now none = refl
+unsaved_whole p other now none = absurd (cc none)

@@ -1,53 +1,26 @@
 -- What a statement emitted, once its tables were saved, or couldn't be.
-use Rattle.std.proofs.Common.{◌≡◌, ℕ, true, false, List, [], Option, Some, None, Err, refl, inl, subst}
-use Rattle.ob_base.specs.Events.{Event}
-use Rattle.ob_base.specs.Refusals.{is_store_fault}
-use Rattle.ob_base.specs.declared.refusal.Refusal.{Refusal}
-use Rattle.ob_mean.specs.Step.{accepted_answer, answered}
-use Rattle.ob_mean.specs.Verdict.{Tables, database, refusal, verdict}
-use Rattle.ob_mean.specs.declared.answer.Answer.{Answer}
-use Rattle.ob_reopen.specs.Keepers.{KeeperState}
-use Rattle.ob_script.specs.Script.{changes_tables}
-use Rattle.ob_sql.specs.Skeleton.{skeleton}
-use Rattle.ob_sql.specs.declared.stmt.Stmt.{Stmt}
-use Rattle.ob_sql.specs.declared.stmt.Stmt.TheVariants.{Create, Insert, Update, Delete, Drop as DropTable, SelectRows as RowsStmt, SelectTotals as TotalsStmt}
-use Rattle.ob_store.proofs.Steps.{none_before}
-use Rattle.ob_store.specs.Runs.{Later}
-use Rattle.ob_store.specs.State.{StoreState}
+use Rattle.ob_exec.proofs.Words.{Answer, answer_labels, answered, changes_tables, count_of, Create, database, Delete, Emits, Engine, Err, Event, false, inl, Insert, is_fault, is_store_fault, KeeperFault, KeeperState, Later, List, None, none_before, Option, Outcome, ReadsTrue, refl, Refusal, RevState, RunStop, SavingCause, SinkFault, SinkStops, skeleton, Some, StashFull, Stmt, Stopped, StoreState, subst, Tables, true, Update, verdict, ℕ, [], ◌≡◌}
+use Rattle.ob_mean.specs.Step.{accepted_answer}
+use Rattle.ob_mean.specs.Verdict.{refusal}
+use Rattle.ob_sql.specs.declared.stmt.Stmt.TheVariants.{Drop as DropTable, SelectRows as RowsStmt, SelectTotals as TotalsStmt}
 use Rattle.ob_tables.proofs.ServeLemmas.{IsBare, bare_prints}
-use Rattle.ob_tables.specs.Agreeing.{count_of}
-use Rattle.ob_tables.specs.Running.{HasNoRows, SinkStops, is_fault}
-use Rattle.ob_tables.specs.Serving.{Answered, Stopped, StopsEmission}
-use Rattle.ob_tables.specs.Telling.{ReadsTrue, answer_labels}
-use Rattle.ob_tables.specs.declared.engine.Engine.{Engine}
-use Rattle.ob_tables.specs.declared.stop.RunStop.{RunStop}
-use Rattle.ob_tables.specs.declared.stop.RunStop.TheVariants.{KeeperFault, NoMemory, SinkFault, StashFull, StoreFault, Tampered}
-use Rattle.ob_vault.specs.State.{RevState}
-use Rattle.ob_verdict.specs.Outcomes.{Emits}
-use Rattle.ob_verdict.specs.declared.outcome.Outcome.{Outcome}
+use Rattle.ob_tables.specs.Running.{HasNoRows}
+use Rattle.ob_tables.specs.Serving.{Answered, StopsEmission}
+use Rattle.ob_tables.specs.declared.stop.RunStop.TheVariants.{NoMemory, StoreFault, Tampered}
 use Rattle.ob_verdict.specs.declared.outcome.Outcome.TheVariants.{Created, Inserted, Changed, Deleted, Dropped, Rows, Refused}
 use Rattle.ob_exec.proofs.SavedRuns.{whole_of}
-use Rattle.ob_exec.specs.Saving.{SavingCause}
 
 -- nothing was emitted of it
 none_emitted : (stmt : Stmt) (labels : List (List ℕ)) (outcome : Outcome) (events : List Event) → HasNoRows outcome → is_fault outcome ≡ false → Emits stmt labels outcome events → events ≡ []
 none_emitted stmt labels (Refused r) events silent own emits = whole_of (is_store_fault r) _ _ own emits
-none_emitted stmt labels Created events silent own emits = emits
-none_emitted stmt labels Inserted events silent own emits = emits
-none_emitted stmt labels (Changed k) events silent own emits = emits
-none_emitted stmt labels (Deleted k) events silent own emits = emits
-none_emitted stmt labels Dropped events silent own emits = emits
 none_emitted stmt labels (Rows k) events silent own emits = absurd silent
+none_emitted stmt labels other events silent own emits = emits
 
 -- the answer to a change is no rows
 bare_change : (tables : Tables) (stmt : Stmt) → changes_tables (skeleton stmt) ≡ true → IsBare (accepted_answer (database tables) stmt)
-bare_change tables (Create table columns capacity shape) changes = tt
-bare_change tables (Insert table columns values) changes = tt
-bare_change tables (Update table sets search) changes = tt
-bare_change tables (Delete table search) changes = tt
-bare_change tables (DropTable table) changes = tt
 bare_change tables (RowsStmt q) changes = absurd (cc changes)
 bare_change tables (TotalsStmt q) changes = absurd (cc changes)
+bare_change tables other changes = tt
 
 bare_refused : (o : Option Refusal) (answer : Answer) → IsBare answer → IsBare (answered o answer)
 bare_refused None answer bare = bare
@@ -73,9 +46,7 @@ module _ {R E : Type 0} (state : R → RevState) (grew cut : E → E → List Ev
     ends_stop StoreFault cause took = (took, refl)
     ends_stop NoMemory cause took = inl took
     ends_stop KeeperFault cause took = (took, refl)
-    ends_stop SinkFault cause took = absurd cause
-    ends_stop StashFull cause took = absurd cause
-    ends_stop (Tampered q x) cause took = absurd cause
+    ends_stop other cause took = absurd cause
 
     pub stopped_then : (stop : RunStop) → SavingCause stop mid s1 t k0 k1 → Stopped state grew cut stmt stop old s new t out_old out_new
     stopped_then stop cause =
@@ -93,9 +64,7 @@ module _ {R E : Type 0} (state : R → RevState) (grew cut : E → E → List Ev
         }
 
     pub sink_then : (old_fault new_fault : ℕ) → new_fault ≡ old_fault → (stop : RunStop) → SavingCause stop mid s1 t k0 k1 → SinkStops (Err stop) old_fault new_fault
-    sink_then old_fault new_fault same StoreFault cause = same
-    sink_then old_fault new_fault same NoMemory cause = same
-    sink_then old_fault new_fault same KeeperFault cause = same
     sink_then old_fault new_fault same SinkFault cause = absurd cause
     sink_then old_fault new_fault same StashFull cause = absurd cause
     sink_then old_fault new_fault same (Tampered q x) cause = absurd cause
+    sink_then old_fault new_fault same other cause = same

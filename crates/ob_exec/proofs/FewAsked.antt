@@ -1,38 +1,26 @@
 -- A statement that changes flat tables asks few accesses.
-use Rattle.std.specs.Prelude.{All, IfSome, ⊤, slice_get}
-use Rattle.std.proofs.Common.{◌≡◌, ◌≤◌, ◌<◌, ◌+◌, ◌^◌, ℕ, Bool, true, false, List, ◌++◌, length, Option, None, Some, refl, sym, ap, subst, arith, get_or, length-append}
-use Rattle.std.proofs.lemmas.Bool.Decides.{nat_tests}
+use Rattle.ob_exec.proofs.Words.{Agrees, allowed, ap, arith, Bool, changes_tables, ChangesFlat, count_of, Create, Delete, early_refusal, Engine, false, headings_of, IfSome, Insert, is_late, left_by, length, length-append, limits_of, List, nat_tests, None, Option, Public, refl, refusal_now, region_below, RevState, run_script, script, Seen, skeleton, slice_get, Some, Stmt, Stored, stored_at, StoreState, subst, sym, true, Update, Whole, world_of, ℕ, ◌++◌, ◌+◌, ◌<◌, ◌^◌, ◌≡◌, ◌≤◌}
+use Rattle.std.specs.Prelude.{All, ⊤}
+use Rattle.std.proofs.Common.{get_or}
 use Rattle.std.proofs.lemmas.Option.{slice_get-get_or}
 use Rattle.ob_base.proofs.AccessLemmas.{makes_few}
-use Rattle.ob_base.specs.declared.config.Public.{Public}
 use Rattle.ob_base.specs.declared.schema.Shape.{Shape}
 use Rattle.ob_base.specs.declared.schema.Shape.TheVariants.{Flat}
 use Rattle.ob_base.specs.declared.schema.Table.{Table}
-use Rattle.ob_base.specs.declared.seen.End.TheVariants.{Whole}
-use Rattle.ob_base.specs.declared.seen.Seen.{Seen}
 use Rattle.ob_base.specs.Indexes.{height_of}
-use Rattle.ob_base.specs.Stored.{Stored, headings_of, stored_at, stored_regions}
-use Rattle.ob_mean.proofs.EarlyLemmas.{allowed, within}
+use Rattle.ob_base.specs.Stored.{stored_regions}
+use Rattle.ob_mean.proofs.EarlyLemmas.{within}
 use Rattle.ob_mean.proofs.FlatLemmas.{region_flat}
 use Rattle.ob_mean.specs.Flats.{AreFlat}
-use Rattle.ob_mean.specs.Refusals.{early_refusal, limits_of}
-use Rattle.ob_mean.specs.Verdict.{is_late}
 use Rattle.ob_reopen.specs.Limits.{IsStored}
 use Rattle.ob_script.proofs.Few.{script_few}
 use Rattle.ob_script.proofs.SavedParts.{script_saved}
-use Rattle.ob_script.specs.Saved.{ChangesFlat, left_by, run_script}
-use Rattle.ob_script.specs.Script.{changes_tables, save_part, script}
+use Rattle.ob_script.specs.Script.{save_part}
 use Rattle.ob_script.specs.Sizes.{IfFlat, IfTable, IsHeld, IsPublic, IsTable, IsWithin, SeesLeaf}
-use Rattle.ob_sql.specs.Skeleton.{skeleton}
-use Rattle.ob_sql.specs.declared.stmt.Stmt.{Stmt}
-use Rattle.ob_sql.specs.declared.stmt.Stmt.TheVariants.{Create, Insert, Update, Delete, Drop as DropTable, SelectRows as RowsStmt, SelectTotals as TotalsStmt}
-use Rattle.ob_store.specs.State.{StoreState}
-use Rattle.ob_tables.proofs.TableLemmas.{region_below}
-use Rattle.ob_tables.specs.Agreeing.{Agrees, count_of, engine_start, world_of}
-use Rattle.ob_tables.specs.declared.engine.Engine.{Engine}
+use Rattle.ob_sql.specs.declared.stmt.Stmt.TheVariants.{Drop as DropTable, SelectRows as RowsStmt, SelectTotals as TotalsStmt}
+use Rattle.ob_tables.specs.Agreeing.{engine_start}
 use Rattle.ob_vault.specs.Places.{start_of}
-use Rattle.ob_vault.specs.State.{RevState, Start, earlier}
-use Rattle.ob_verdict.specs.Outcomes.{refusal_now}
+use Rattle.ob_vault.specs.State.{Start, earlier}
 
 -- ---- what is public is within its limits
 region_few : (start : Start) → start.region ≤ earlier start

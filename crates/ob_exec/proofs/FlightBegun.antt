@@ -1,29 +1,13 @@
 -- The first changed block that a flight reads is one that its statements read by their meaning.
-use Rattle.std.proofs.Common.{◌≡◌, ◌+◌, ◌++◌, ℕ, Bool, true, false, List, ◌∷◌, map, length, Some, refl, sym, ◌∙◌, ap, subst, inl, inr, append_assoc}
-use Rattle.std.specs.Prelude.{drop, slice_get, take}
-use Rattle.std.proofs.lemmas.List.{length-map, take-append-drop}
-use Rattle.ob_base.specs.declared.access.Access.{Access}
+use Rattle.ob_exec.proofs.Words.{Access, accesses_in, AfterCount, AllMay, AllMayFly, ap, append_assoc, AreSteady, Bool, Closed, Cut, cut_at, Draws, drop, End, false, first_of_merge, in_flight, Index, inl, inr, Joined, Kind, length, length-map, Lie, List, map, merge, Moment, Public, ReadsIn, refl, Seen, Served, setting_off, skeleton, slice_get, Some, Static, Stmt, subst, sym, Tables, take, true, turns, Whole, ℕ, ◌++◌, ◌+◌, ◌∙◌, ◌∷◌, ◌≡◌}
+use Rattle.std.proofs.lemmas.List.{take-append-drop}
 use Rattle.ob_base.specs.declared.access.Access.TheVariants.{Read}
-use Rattle.ob_base.specs.declared.config.Public.{Public}
-use Rattle.ob_base.specs.declared.seen.End.{End}
-use Rattle.ob_base.specs.declared.seen.End.TheVariants.{Static, Whole, AfterCount, Joined, Cut}
-use Rattle.ob_base.specs.declared.seen.Seen.{Seen}
-use Rattle.ob_inflight.specs.Aloft.{AllMay, HasStood, setting_off}
-use Rattle.ob_inflight.specs.Closing.{Closed}
-use Rattle.ob_inflight.specs.Kinds.{Kind, Moment}
-use Rattle.ob_mean.specs.Replay.{cut_at}
-use Rattle.ob_mean.specs.Verdict.{Draws, Tables, seen as seen_by}
-use Rattle.ob_oram.specs.declared.index.Index.{Index}
-use Rattle.ob_script.specs.FlightLaws.{AllMayFly, MayFly}
-use Rattle.ob_script.specs.Flights.{AreSteady, Flight, accesses_in, merge, turns}
-use Rattle.ob_script.specs.Trace.{Served}
-use Rattle.ob_script.proofs.FlightEnds.{first_of_merge}
-use Rattle.ob_sql.specs.Skeleton.{skeleton}
-use Rattle.ob_sql.specs.declared.stmt.Stmt.{Stmt}
-use Rattle.ob_store.specs.State.{Lie}
-use Rattle.ob_vault.specs.Tied.{ReadsIn}
+use Rattle.ob_inflight.specs.Aloft.{HasStood}
+use Rattle.ob_mean.specs.Verdict.{seen as seen_by}
+use Rattle.ob_script.specs.FlightLaws.{MayFly}
+use Rattle.ob_script.specs.Flights.{Flight}
 use Rattle.ob_exec.specs.InFlight.{MeantUntil, served_as}
-use Rattle.ob_exec.specs.RanFlight.{BeginsMeant, in_flight}
+use Rattle.ob_exec.specs.RanFlight.{BeginsMeant}
 use Rattle.ob_exec.proofs.FlightLists.{all_may, get_mapped, get_other, seen_same}
 use Rattle.ob_exec.proofs.FlightStage.{HoldNow, IsStage, shown_of}
 use Rattle.ob_exec.proofs.FlightRuns.{Boards, as_many, may_fly, sets_now, they_hold, they_serve}
@@ -39,11 +23,8 @@ reads_first lie asked all n reads = record {
 
 -- what its meaning shows may be meant, however it ended
 meant_whole : (d : Draws) (p : Public) (m : ℕ) (tables : Tables) (stmt : Stmt) (end : End) (shown : Seen) → shown ≡ seen_by d p m tables stmt → MeantUntil d p m tables stmt end shown
-meant_whole d p m tables stmt Static shown is = is
-meant_whole d p m tables stmt Whole shown is = is
-meant_whole d p m tables stmt AfterCount shown is = is
-meant_whole d p m tables stmt Joined shown is = is
 meant_whole d p m tables stmt (Cut n) shown is = inl is
+meant_whole d p m tables stmt other shown is = is
 
 module _ {F : Type 0} (k : Kind F) (m : ℕ) (stage : IsStage k m) (steady_of : (p : Public) (flown : List Served) → AllMayFly flown → AreSteady p flown)
     (p : Public) (stmts : List Stmt) (words : ℕ → ℕ) (share : ℕ) (start now : Moment F) (boards : Boards k m p stmts start)

@@ -1,54 +1,30 @@
 -- The statements of a flight may set off: each stands, and goes by what is public.
-use Rattle.std.proofs.Common.{◌≡◌, ◌≤◌, ◌<◌, ◌+◌, ◌-◌, ◌*◌, ◌/◌, ◌^◌, ℕ, zero, suc, Bool, false, List, [], length, Some, None, refl, sym, ◌∙◌, ap, subst, arith}
-use Rattle.std.specs.Prelude.{slice_get}
-use Rattle.std.proofs.lemmas.Bool.Decides.{nat_tests}
+use Rattle.ob_exec.proofs.Words.{Agrees, allowed, answer_labels, ap, AreNamed, arith, Bool, ChangesNothing, count_of, Create, Delete, early_of, Engine, Event, events_at, false, FitShares, flat_of, flight_kind, flight_progress, flight_public, in_flight, Insert, is_access, is_late, IsAboard, IsAt, IsFlat, labels_of, length, limits_of, List, MayFlyBy, nat_tests, None, none, Public, refl, refusal_now, RevState, selection, SelectsFromOne, skeleton, slice_get, Some, Source, Stmt, StoreState, subst, suc, sym, Update, went_rests, World, world_of, zero, ℕ, [], ◌*◌, ◌+◌, ◌-◌, ◌<◌, ◌^◌, ◌∙◌, ◌≡◌, ◌≤◌}
+use Rattle.std.proofs.Common.{◌/◌}
 use Rattle.std.proofs.lemmas.Nat.{div-add-mod', le-div}
 use Rattle.std.proofs.lemmas.Option.{get_or_from_slice_get, slice_get_within}
-use Rattle.ob_base.specs.Events.{Event}
-use Rattle.ob_base.specs.declared.config.Public.{Public}
 use Rattle.ob_base.specs.declared.skeleton.Skeleton.TheVariants.{Rows as RowsSkeleton}
-use Rattle.ob_base.specs.declared.skeleton.Source.{Source}
-use Rattle.ob_emit.specs.Emitting.{labels_of}
 use Rattle.ob_flat.specs.declared.flat.Flat.{Flat}
-use Rattle.ob_flat.specs.Flats.{IsFlat}
 use Rattle.ob_flat.specs.Scans.{MayScan}
 use Rattle.ob_flat.proofs.Tables.{fits_sized, written_flat}
 use Rattle.ob_inflight.specs.Aloft.{AreBoarded, booked_by, most_of}
-use Rattle.ob_inflight.specs.Closing.{events_at, outcome_at}
+use Rattle.ob_inflight.specs.Closing.{outcome_at}
 use Rattle.ob_inflight.specs.Kinds.{moment, share_at}
 use Rattle.ob_inflight.proofs.Lists.{total_few}
 use Rattle.ob_join.proofs.Windows.{part_long, part_wide, product_within}
-use Rattle.ob_mean.specs.Refusals.{limits_of, tables_of}
-use Rattle.ob_mean.specs.Replay.{is_access}
-use Rattle.ob_mean.specs.Verdict.{is_late}
-use Rattle.ob_mean.proofs.EarlyLemmas.{allowed}
-use Rattle.ob_script.specs.FlightLaws.{SelectsFromOne}
-use Rattle.ob_script.specs.Flights.{flight_public}
-use Rattle.ob_sql.specs.Skeleton.{skeleton}
+use Rattle.ob_mean.specs.Refusals.{tables_of}
 use Rattle.ob_sql.specs.declared.stmt.SelectRows.{SelectRows}
-use Rattle.ob_sql.specs.declared.stmt.Stmt.{Stmt}
-use Rattle.ob_sql.specs.declared.stmt.Stmt.TheVariants.{Create, Insert, Update, Delete, Drop as DropTable, SelectRows as RowsStmt, SelectTotals as TotalsStmt}
-use Rattle.ob_stages.specs.Flying.{FlightHolds, flight_progress}
+use Rattle.ob_sql.specs.declared.stmt.Stmt.TheVariants.{Drop as DropTable, SelectRows as RowsStmt, SelectTotals as TotalsStmt}
+use Rattle.ob_stages.specs.Flying.{FlightHolds}
 use Rattle.ob_stages.specs.declared.flight.Flight.{Flight}
 use Rattle.ob_stages.proofs.GroupsEnds.{buffered_few, share_few}
-use Rattle.ob_store.specs.Calls.{ChangesNothing}
-use Rattle.ob_store.specs.State.{StoreState}
-use Rattle.ob_tables.specs.Agreeing.{Agrees, count_of, world_of}
-use Rattle.ob_tables.specs.Engines.{IsAt, flat_of}
-use Rattle.ob_tables.specs.Telling.{answer_labels}
-use Rattle.ob_tables.specs.declared.engine.Engine.{Engine}
 use Rattle.ob_tables.proofs.SourceColumns.{labelled_is}
-use Rattle.ob_tables.proofs.TableLemmas.{AreNamed, flat_kept}
-use Rattle.ob_vault.specs.Calls.{none}
+use Rattle.ob_tables.proofs.TableLemmas.{flat_kept}
 use Rattle.ob_vault.specs.Rows.{Wide}
-use Rattle.ob_vault.specs.State.{RevState, World}
 use Rattle.ob_vault.proofs.RowsLemmas.{rows_room}
-use Rattle.ob_vault.proofs.WordLemmas.{ready_rests, went_rests}
-use Rattle.ob_verdict.specs.Outcomes.{refusal_now}
-use Rattle.ob_exec.specs.Boarding.{AreAboard, FitShares, IsAboard, MayFlyBy, MaySetOff, flight_kind, share_of}
-use Rattle.ob_exec.specs.InFlight.{AreFlight, early_of, Flies}
-use Rattle.ob_exec.specs.RanFlight.{in_flight}
-use Rattle.ob_exec.specs.Sources.{selection}
+use Rattle.ob_vault.proofs.WordLemmas.{ready_rests}
+use Rattle.ob_exec.specs.Boarding.{AreAboard, MaySetOff, share_of}
+use Rattle.ob_exec.specs.InFlight.{AreFlight, Flies}
 use Rattle.ob_exec.proofs.BoardOne.{early_same, from_one, table_sized}
 use Rattle.ob_exec.proofs.FlightLists.{get_other}
 use Rattle.ob_exec.proofs.FlightRuns.{Boards}
@@ -102,15 +78,11 @@ may_fly_by state old s stmts agrees flown =
 
 -- an access of an index follows from the tables alone
 plain_same : (n : ℕ) (p : Public) (stmt : Stmt) → SelectsFromOne (skeleton stmt) → is_access (flight_public n p) (skeleton stmt) ≡ is_access p (skeleton stmt)
-plain_same n p (Create table columns capacity shape) is = absurd is
-plain_same n p (Insert table columns values) is = absurd is
-plain_same n p (Update table sets search) is = absurd is
-plain_same n p (Delete table search) is = absurd is
-plain_same n p (DropTable table) is = absurd is
 plain_same n p (RowsStmt s) is =
     let one = from_one s.source s.list is in
     ap (λ (source : Source). is_access (flight_public n p) (RowsSkeleton source s.list)) one.1 ∙ sym (ap (λ (source : Source). is_access p (RowsSkeleton source s.list)) one.1)
 plain_same n p (TotalsStmt s) is = refl
+plain_same n p other is = absurd is
 
 no_events : (i : ℕ) → events_at [] [] i ≡ []
 no_events zero = refl

@@ -1,42 +1,23 @@
 -- What had ended within a flight's first accesses is as it is meant, whatever is read later.
-use Rattle.std.proofs.Common.{◌≡◌, ◌≤◌, ◌<◌, ◌+◌, ◌++◌, inl, inr, ℕ, zero, suc, Bool, true, false, IsTrue, List, [], ◌∷◌, map, length, length-append, Option, Some, None, refl, sym, ◌∙◌, ap, subst, arith}
-use Rattle.std.specs.Prelude.{is_some, option_map, slice_get, take}
-use Rattle.std.specs.Option.{option_map_or}
-use Rattle.std.proofs.lemmas.Bool.{cases_lt}
-use Rattle.std.proofs.lemmas.List.{length-map}
+use Rattle.ob_exec.proofs.Words.{Access, accesses_in, Agrees, AllMay, AllMayFly, ap, AreSteady, arith, boarding, Bool, cases_lt, ChangesNothing, Closed, count_of, Draws, EndedWithin, Engine, false, first_of_merge, Flying, flying_of, in_flight, inl, inr, is_cut, is_fault, is_some, IsMeant, IsTrue, Kind, length, length-append, length-map, Lie, List, map, merge, Moment, None, none_before, Option, option_map_or, Progress, Public, ReadsTrue, refl, RevState, Seen, Served, setting_off, skeleton, slice_get, Some, Stmt, StoreState, subst, suc, sym, Tables, take, true, turns, world_of, zero, ℕ, [], ◌++◌, ◌+◌, ◌<◌, ◌∙◌, ◌∷◌, ◌≡◌, ◌≤◌}
+use Rattle.std.specs.Prelude.{option_map}
 use Rattle.std.proofs.lemmas.Option.{same_Some}
-use Rattle.ob_base.specs.declared.access.Access.{Access}
 use Rattle.ob_base.specs.declared.access.Access.TheVariants.{Read}
-use Rattle.ob_base.specs.declared.config.Public.{Public}
-use Rattle.ob_inflight.specs.Aloft.{AllMay, BeginsIn, HasStood, HaveStood, IsBegun, flight_in, flying_in, setting_off, HasGoneOn, HaveGoneOn}
-use Rattle.ob_inflight.specs.Closing.{Closed, RisesBy, outcome_at}
-use Rattle.ob_inflight.specs.Kinds.{Kind, Moment}
-use Rattle.ob_inflight.specs.Progress.{Progress, flying_of}
+use Rattle.ob_inflight.specs.Aloft.{BeginsIn, HasStood, HaveStood, IsBegun, flight_in, flying_in, HasGoneOn, HaveGoneOn}
+use Rattle.ob_inflight.specs.Closing.{RisesBy, outcome_at}
 use Rattle.ob_inflight.proofs.Stopping.{keeps_still}
-use Rattle.ob_mean.specs.Batches.{is_cut}
-use Rattle.ob_script.specs.FlightLaws.{AllMayFly, one_if}
-use Rattle.ob_script.specs.Flights.{AreSteady, Flight, Flying, accesses_in, boarding, turns, merge}
-use Rattle.ob_script.specs.Trace.{Served}
-use Rattle.ob_script.proofs.FlightEnds.{total_part, first_of_merge}
+use Rattle.ob_script.specs.FlightLaws.{one_if}
+use Rattle.ob_script.specs.Flights.{Flight}
+use Rattle.ob_script.proofs.FlightEnds.{total_part}
 use Rattle.ob_script.proofs.FlightLemmas.{logs_grow}
-use Rattle.ob_sql.specs.declared.stmt.Stmt.{Stmt}
-use Rattle.ob_store.proofs.Steps.{later_trans, none_before}
-use Rattle.ob_store.specs.Calls.{ChangesNothing}
-use Rattle.ob_store.specs.State.{Lie, StoreState}
-use Rattle.ob_tables.specs.Agreeing.{Agrees, count_of, world_of}
-use Rattle.ob_tables.specs.Running.{is_fault}
-use Rattle.ob_tables.specs.declared.engine.Engine.{Engine}
-use Rattle.ob_vault.specs.State.{RevState}
-use Rattle.ob_exec.specs.InFlight.{EndsAs, EndsMeant, IsFlown, IsMeant, served_as}
-use Rattle.ob_exec.specs.RanFlight.{EndedWithin, MeantThen, in_flight, AsksMeant, meant_of}
+use Rattle.ob_store.proofs.Steps.{later_trans}
+use Rattle.ob_exec.specs.InFlight.{EndsAs, EndsMeant, IsFlown, served_as}
+use Rattle.ob_exec.specs.RanFlight.{MeantThen, AsksMeant, meant_of}
 use Rattle.ob_exec.proofs.FlightFrames.{hold_now, lasts_all}
 use Rattle.ob_exec.proofs.FlightLists.{flying_get, get_other}
 use Rattle.ob_exec.proofs.FlightRuns.{Boards, as_many, emitted_now, flown_now, meant_now, sets_now, they_hold, they_serve}
 use Rattle.ob_exec.proofs.FlightStage.{IsStage, HoldNow, shown_of}
-use Rattle.ob_base.specs.declared.seen.Seen.{Seen}
-use Rattle.ob_mean.specs.Verdict.{Draws, Tables, seen as seen_by}
-use Rattle.ob_sql.specs.Skeleton.{skeleton}
-use Rattle.ob_tables.specs.Telling.{ReadsTrue}
+use Rattle.ob_mean.specs.Verdict.{seen as seen_by}
 use Rattle.ob_exec.proofs.FlightBegun.{all_fly, all_mean, same}
 use Rattle.ob_tables.proofs.CutLemmas.{end_cut}
 

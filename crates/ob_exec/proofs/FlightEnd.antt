@@ -1,38 +1,13 @@
 -- A flight that nothing stopped.
-use Rattle.std.proofs.Common.{◌≡◌, ◌≤◌, ◌+◌, ◌++◌, ℕ, Bool, true, false, List, [], map, length, Option, Some, None, Ok, refl, sym, ◌∙◌, ap, subst, arith, length-append}
-use Rattle.std.specs.Prelude.{drop, is_some, slice_get}
-use Rattle.std.proofs.lemmas.List.{length-map}
-use Rattle.ob_base.specs.Events.{Event}
-use Rattle.ob_base.specs.declared.access.Access.{Access}
-use Rattle.ob_base.specs.declared.config.Public.{Public}
-use Rattle.ob_base.specs.declared.seen.Seen.{Seen}
+use Rattle.ob_exec.proofs.Words.{Access, accesses_in, Agrees, AllMayFly, ap, AreSteady, arith, asked_by, asked_since, at, Bool, ChangesNothing, count_of, Draws, drop, EndedWithin, Engine, engine_behind, Event, false, in_flight, is_some, IsFree, IsMeant, Kind, Lasts, length, length-append, length-map, List, map, merge, Moment, None, Ok, Option, Outcome, Public, RanFlight, ReadsTrueUntil, refl, RevState, RoomState, Seen, Served, slice_get, Some, Stmt, StoreState, subst, sym, Tables, taker_of, true, unfit_none, Vault, world_of, ℕ, [], ◌++◌, ◌+◌, ◌∙◌, ◌≡◌, ◌≤◌}
 use Rattle.ob_inflight.specs.Closing.{RisesBy}
 use Rattle.ob_inflight.specs.Flown.{HasFlown}
-use Rattle.ob_inflight.specs.Kinds.{Kind, Moment, taker_of}
-use Rattle.ob_mean.specs.Verdict.{Draws, Tables}
-use Rattle.ob_room.specs.RoomState.{RoomState}
-use Rattle.ob_script.specs.FlightLaws.{AllMayFly}
-use Rattle.ob_script.specs.Flights.{AreSteady, Flight, accesses_in, merge, next_flight, own, turns_of, own_asked}
-use Rattle.ob_script.specs.Trace.{Served}
-use Rattle.ob_select.specs.Settings.{IsFree}
-use Rattle.ob_sql.specs.declared.stmt.Stmt.{Stmt}
-use Rattle.ob_store.specs.Calls.{ChangesNothing}
-use Rattle.ob_store.specs.State.{StoreState}
-use Rattle.ob_tables.specs.Agreeing.{Agrees, count_of, world_of}
-use Rattle.ob_tables.specs.Telling.{ReadsTrueUntil}
-use Rattle.ob_tables.specs.declared.engine.Engine.{Engine}
-use Rattle.ob_tables.proofs.EmitLemmas.{unfit_none}
-use Rattle.ob_vault.specs.Calls.{Lasts}
-use Rattle.ob_vault.specs.Places.{at}
-use Rattle.ob_vault.specs.State.{RevState}
+use Rattle.ob_script.specs.Flights.{Flight, next_flight, own, turns_of, own_asked}
 use Rattle.ob_vault.specs.declared.region.Region.{Region}
-use Rattle.ob_vault.specs.declared.vault.Vault.{Vault}
-use Rattle.ob_verdict.specs.declared.outcome.Outcome.{Outcome}
-use Rattle.ob_exec.specs.InFlight.{IsFlown, IsMeant, served_as}
-use Rattle.ob_exec.specs.RanFlight.{EndedWithin, FlightMeans, MeantThen, RanFlight, RanInTurns, asked_by, asked_since, cut_off, in_flight}
+use Rattle.ob_exec.specs.InFlight.{IsFlown, served_as}
+use Rattle.ob_exec.specs.RanFlight.{FlightMeans, MeantThen, RanInTurns, cut_off}
 use Rattle.ob_exec.proofs.FlightBegun.{begins_meant}
 use Rattle.ob_exec.proofs.FlightEarlier.{asks_meant, meant_then}
-use Rattle.ob_exec.specs.Boarding.{engine_behind}
 use Rattle.ob_exec.proofs.FlightFrames.{agrees_behind, apart_behind, calm_start, draws_behind, held_behind, hold_now, lasts_all, opens_behind, sealed_behind}
 use Rattle.ob_exec.proofs.FlightLists.{cuts_same, get_mapped}
 use Rattle.ob_exec.proofs.FlightRuns.{Boards, all_merged, as_many, emits_now, emitted_now, first_now, flown_now, may_now, meant_now, next_now, own_now, served_now, some_ended, steady_now, they_hold, turned_now, turns_now}

@@ -1,31 +1,15 @@
 -- What SELECTs in flight do, from how they set off and what their turns came to.
-use Rattle.std.proofs.Common.{◌≡◌, ◌≤◌, ◌+◌, ℕ, max, true, false, List, map, length, Result, Ok, Err, ap, arith}
-use Rattle.std.specs.Prelude.{IfErr, OnOk}
+use Rattle.ob_exec.proofs.Words.{Agrees, ap, arith, at, ChangesNothing, count_of, Engine, engine_behind, Err, Event, false, flight_kind, flight_progress, halt_of, IfErr, is_late, IsFree, length, List, map, Ok, OnOk, OpErr, Outcome, RanFlight, Result, RevState, RoomState, SinkCause, Stmt, StoreState, taker_of, true, Vault, world_of, ℕ, ◌+◌, ◌≡◌, ◌≤◌}
+use Rattle.std.proofs.Common.{max}
 use Rattle.std.specs.Result.{is_err}
-use Rattle.ob_base.specs.Events.{Event}
-use Rattle.ob_flat.specs.declared.fault.OpErr.{OpErr}
-use Rattle.ob_flat.specs.Passes.{SinkCause}
 use Rattle.ob_inflight.specs.Flown.{HasFlown, StopsFlight}
-use Rattle.ob_inflight.specs.Kinds.{moment, taker_of}
-use Rattle.ob_mean.specs.Verdict.{is_late}
-use Rattle.ob_room.specs.RoomState.{RoomState}
+use Rattle.ob_inflight.specs.Kinds.{moment}
 use Rattle.ob_script.proofs.Steady.{all_steady}
-use Rattle.ob_select.specs.Settings.{IsFree}
 use Rattle.ob_select.proofs.RoomLemmas.{free_after}
-use Rattle.ob_sql.specs.declared.stmt.Stmt.{Stmt}
-use Rattle.ob_stages.specs.Flying.{flight_progress}
 use Rattle.ob_stages.specs.declared.flight.Flight.{Flight}
-use Rattle.ob_store.specs.Calls.{ChangesNothing}
-use Rattle.ob_store.specs.State.{StoreState}
-use Rattle.ob_tables.specs.Agreeing.{Agrees, count_of, world_of}
-use Rattle.ob_tables.specs.declared.engine.Engine.{Engine}
-use Rattle.ob_vault.specs.Places.{at}
-use Rattle.ob_vault.specs.State.{RevState}
-use Rattle.ob_vault.specs.declared.vault.Vault.{Vault}
-use Rattle.ob_verdict.specs.declared.outcome.Outcome.{Outcome}
-use Rattle.ob_exec.specs.Boarding.{AreAboard, engine_behind, flight_kind}
+use Rattle.ob_exec.specs.Boarding.{AreAboard}
 use Rattle.ob_exec.specs.InFlight.{AreFlight}
-use Rattle.ob_exec.specs.RanFlight.{RanFlight, halt_of, halted}
+use Rattle.ob_exec.specs.RanFlight.{halted}
 use Rattle.ob_exec.proofs.FlightBoards.{boards}
 use Rattle.ob_exec.proofs.FlightEnd.{flight_ended}
 use Rattle.ob_exec.proofs.FlightHalted.{flight_halted}

@@ -1,30 +1,13 @@
 -- The engine behind a flight: its tables are as they were.
-use Rattle.std.proofs.Common.{◌≡◌, ◌≤◌, ℕ, Bool, List, None, refl, sym, ◌∙◌, ap, subst, arith}
-use Rattle.ob_base.specs.declared.access.Access.{Access}
-use Rattle.ob_mean.specs.Verdict.{Draws, Tables}
-use Rattle.ob_room.specs.RoomState.{RoomState}
+use Rattle.ob_exec.proofs.Words.{Access, Agrees, ap, AreDraws, AreHeld, arith, at, Bool, Calm, ChangesNothing, Draws, Engine, engine_behind, IsFree, KeySet, Lasts, later_rests, List, None, Opens, others_of, refl, region_below, RevState, RoomState, Seals, seals_join, seals_rests, StoreState, subst, sym, Tables, Vault, went_rests, World, world_of, ℕ, ◌∙◌, ◌≡◌, ◌≤◌}
 use Rattle.ob_seal.specs.Draws.{draw_of}
-use Rattle.ob_seal.specs.KeySet.{KeySet}
-use Rattle.ob_select.specs.Opening.{Opens}
 use Rattle.ob_select.specs.Selecting.{AcceptsRows}
-use Rattle.ob_select.specs.Settings.{IsFree}
-use Rattle.ob_store.specs.Calls.{ChangesNothing}
-use Rattle.ob_store.specs.State.{StoreState}
-use Rattle.ob_store.proofs.Steps.{later_rests}
-use Rattle.ob_tables.specs.Agreeing.{Agrees, AreDraws, world_of}
-use Rattle.ob_tables.specs.Engines.{AreTables, others_of}
-use Rattle.ob_tables.specs.Telling.{AreHeld, KeepsSealed, Represents}
-use Rattle.ob_tables.specs.declared.engine.Engine.{Engine}
+use Rattle.ob_tables.specs.Engines.{AreTables}
+use Rattle.ob_tables.specs.Telling.{KeepsSealed, Represents}
 use Rattle.ob_tables.proofs.HeldLemmas.{held_kept}
-use Rattle.ob_tables.proofs.TableLemmas.{beside_below, region_below, tables_kept}
-use Rattle.ob_vault.specs.Calls.{Apart, Lasts, Seals}
-use Rattle.ob_vault.specs.Places.{at}
-use Rattle.ob_vault.specs.State.{RevState, World}
-use Rattle.ob_vault.specs.Tied.{Calm}
-use Rattle.ob_vault.specs.declared.vault.Vault.{Vault}
-use Rattle.ob_vault.proofs.Runs.{lasts_trans, seals_join}
-use Rattle.ob_vault.proofs.WordLemmas.{seals_rests, went_rests}
-use Rattle.ob_exec.specs.Boarding.{engine_behind}
+use Rattle.ob_tables.proofs.TableLemmas.{beside_below, tables_kept}
+use Rattle.ob_vault.specs.Calls.{Apart}
+use Rattle.ob_vault.proofs.Runs.{lasts_trans}
 use Rattle.ob_exec.proofs.FlightStage.{HoldNow}
 
 module _ {R : Type 0} (state : R → RevState) (old : Engine R) (s s1 : StoreState) (agrees : Agrees state old s) (rests : ChangesNothing s s1) where

@@ -1,55 +1,22 @@
 -- What was emitted until a flight was stopped, and where it wanted memory.
-use Rattle.std.proofs.Common.{◌≡◌, ◌⊎◌, ◌≤◌, ◌+◌, ◌++◌, ℕ, true, false, IsTrue, List, [], ◌∷◌, map, length, Option, Some, None, Err, refl, sym, ◌∙◌, ap, subst, inl, inr, arith, append_assoc}
-use Rattle.std.specs.Prelude.{drop, option_map, slice_get}
-use Rattle.std.proofs.lemmas.List.{length-map}
+use Rattle.ob_exec.proofs.Words.{Access, accesses_in, Agrees, AllMayFly, answer_labels, ap, append_assoc, AreSteady, arith, asked_by, asked_since, at, Calm, ChangesNothing, Closed, count_of, done_of, drop, EmitErr, Emits, Emitted, EndedWithin, Engine, engine_behind, Err, Event, events_at, false, halt_of, HasHalted, in_flight, inl, inr, is_refused, IsFree, IsMeant, IsTrue, Kind, Lasts, length, length-map, List, map, Moment, None, none_before, OpErr, Option, Outcome, Partly, Progress, Public, RanFlight, ReadsTrue, ReadsTrueUntil, refl, RevState, RoomState, script, Seen, Served, SinkCause, Skeleton, skeleton, slice_get, Some, Stmt, StoreState, subst, sym, Tables, taker_of, true, Vault, verdict, whole_script, World, world_of, ℕ, [], ◌++◌, ◌+◌, ◌∙◌, ◌∷◌, ◌≡◌, ◌≤◌, ◌⊎◌}
+use Rattle.std.specs.Prelude.{option_map}
 use Rattle.std.proofs.lemmas.Option.{slice_get_within}
-use Rattle.ob_base.specs.Events.{Event}
-use Rattle.ob_base.specs.declared.access.Access.{Access}
-use Rattle.ob_base.specs.declared.config.Public.{Public}
-use Rattle.ob_base.specs.declared.emit.EmitErr.{EmitErr}
 use Rattle.ob_base.specs.declared.emit.EmitErr.TheVariants as EmitErrs
-use Rattle.ob_base.specs.declared.seen.Seen.{Seen}
-use Rattle.ob_base.specs.declared.skeleton.Skeleton.{Skeleton}
 use Rattle.ob_flat.specs.Flats.{Accepts}
-use Rattle.ob_flat.specs.declared.fault.OpErr.{OpErr}
 use Rattle.ob_flat.specs.declared.fault.OpErr.TheVariants as OpErrs
-use Rattle.ob_flat.specs.Passes.{SinkCause}
 use Rattle.ob_inflight.specs.Answers.{EndsBy, error_of}
-use Rattle.ob_inflight.specs.Closing.{Closed, RisesBy, events_at, outcome_at}
+use Rattle.ob_inflight.specs.Closing.{RisesBy, outcome_at}
 use Rattle.ob_inflight.specs.Flown as Flown
 use Rattle.ob_inflight.specs.Flown.{StopsInClosing, StopsInFinish, StopsInStep}
-use Rattle.ob_inflight.specs.Kinds.{Kind, Moment, moment, share_at, taker_of}
-use Rattle.ob_inflight.specs.Progress.{KeepsCourse, Progress}
-use Rattle.ob_mean.specs.Replay.{done_of}
-use Rattle.ob_mean.specs.Verdict.{Tables, verdict}
-use Rattle.ob_room.specs.RoomState.{RoomState}
-use Rattle.ob_script.specs.FlightLaws.{AllMayFly}
-use Rattle.ob_script.specs.Flights.{AreSteady, accesses_in}
-use Rattle.ob_script.specs.Script.{script, whole_script}
-use Rattle.ob_script.specs.Trace.{Served}
-use Rattle.ob_select.specs.Memory.{AtEmission, AtMake, AtResult, HasHalted, ends_with_make}
-use Rattle.ob_select.specs.Settings.{IsFree}
-use Rattle.ob_sql.specs.Skeleton.{skeleton}
-use Rattle.ob_sql.specs.declared.stmt.Stmt.{Stmt}
-use Rattle.ob_store.specs.Calls.{ChangesNothing}
-use Rattle.ob_store.specs.State.{StoreState}
-use Rattle.ob_tables.specs.Agreeing.{Agrees, count_of, world_of}
-use Rattle.ob_tables.specs.Telling.{Emitted, ReadsTrue, ReadsTrueUntil, answer_labels, is_refused}
-use Rattle.ob_tables.specs.declared.engine.Engine.{Engine}
-use Rattle.ob_store.proofs.Steps.{none_before}
-use Rattle.ob_vault.specs.Calls.{Lasts}
-use Rattle.ob_vault.specs.Places.{at}
-use Rattle.ob_vault.specs.State.{RevState, World}
-use Rattle.ob_vault.specs.Tied.{Calm}
-use Rattle.ob_vault.specs.declared.vault.Vault.{Vault}
-use Rattle.ob_verdict.specs.Outcomes.{Emits, Partly}
-use Rattle.ob_verdict.specs.declared.outcome.Outcome.{Outcome}
-use Rattle.ob_exec.specs.InFlight.{EndsAs, EndsMeant, IsFlown, IsMeant, served_as}
-use Rattle.ob_exec.specs.RanFlight.{AtEmitter, BeforeMake, EndedWithin, EndsSo, FlightCause, FlightMeans, InEnd, InTurn, MeantThen, RanFlight, RanInTurns, StopsClosing, StopsFlight, asked_by, asked_next, asked_since, cut_off, halt_of, in_flight}
+use Rattle.ob_inflight.specs.Kinds.{moment, share_at}
+use Rattle.ob_inflight.specs.Progress.{KeepsCourse}
+use Rattle.ob_select.specs.Memory.{AtEmission, AtMake, AtResult, ends_with_make}
+use Rattle.ob_exec.specs.InFlight.{EndsAs, EndsMeant, IsFlown, served_as}
+use Rattle.ob_exec.specs.RanFlight.{AtEmitter, BeforeMake, EndsSo, FlightCause, FlightMeans, InEnd, InTurn, MeantThen, RanInTurns, StopsClosing, StopsFlight, asked_next, cut_off}
 use Rattle.ob_exec.proofs.FlightBegun.{begins_meant}
 use Rattle.ob_exec.proofs.FlightEarlier.{asks_meant, meant_then}
 use Rattle.ob_exec.proofs.FlightEnd.{rises_from}
-use Rattle.ob_exec.specs.Boarding.{engine_behind}
 use Rattle.ob_exec.proofs.FlightFrames.{apart_behind, calm_start, draws_behind, hold_now, lasts_all, opens_behind, sealed_behind}
 use Rattle.ob_exec.proofs.FlightLists.{cuts_same, events_next, get_mapped, get_other, get_within, map_get, outcome_next, past_ended}
 use Rattle.ob_exec.proofs.FlightRuns.{Boards, ServesOne, all_now, emits_now, emitted_now, may_now, partly_now, public_is, served_now, set_kept, steady_now, turned_now}

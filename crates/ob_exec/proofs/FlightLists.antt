@@ -1,24 +1,14 @@
 -- The statements of a flight, those that fly for them, and what is seen of each.
-use Rattle.std.proofs.Common.{◌≡◌, ◌⊎◌, ◌≤◌, ◌<◌, ◌+◌, ◌-◌, ℕ, zero, suc, List, [], ◌∷◌, ◌++◌, map, length, Option, Some, None, refl, sym, ◌∙◌, ap, inl, inr, arith}
-use Rattle.std.specs.Prelude.{option_map, slice_get, slice_set, take}
-use Rattle.std.proofs.lemmas.Bool.{cases_lt}
+use Rattle.ob_exec.proofs.Words.{AllMay, ap, AreSteady, arith, boarding, cases_lt, Closed, Event, events_at, flight_public, Flying, flying_of, inl, inr, is_cut, Kind, length, List, map, None, Option, Public, refl, Seen, Served, setting_off, skeleton, slice_get, Some, Stmt, suc, sym, take, turns, zero, ℕ, [], ◌++◌, ◌+◌, ◌-◌, ◌<◌, ◌∙◌, ◌∷◌, ◌≡◌, ◌≤◌, ◌⊎◌}
+use Rattle.std.specs.Prelude.{option_map, slice_set}
 use Rattle.std.proofs.lemmas.List.{take_all, take_at}
 use Rattle.std.proofs.lemmas.Option.{same_Some, slice_get-map}
-use Rattle.ob_base.specs.Events.{Event}
-use Rattle.ob_base.specs.declared.config.Public.{Public}
-use Rattle.ob_base.specs.declared.seen.Seen.{Seen}
-use Rattle.ob_inflight.specs.Aloft.{AllMay, acts_of, failed_of, flying_in, setting_off}
-use Rattle.ob_inflight.specs.Closing.{Closed, events_at, outcome_at}
-use Rattle.ob_inflight.specs.Kinds.{Kind}
-use Rattle.ob_inflight.specs.Progress.{flying_of}
-use Rattle.ob_mean.specs.Batches.{is_cut}
+use Rattle.ob_inflight.specs.Aloft.{acts_of, failed_of, flying_in}
+use Rattle.ob_inflight.specs.Closing.{outcome_at}
 use Rattle.ob_script.specs.FlightLaws as L
-use Rattle.ob_script.specs.Flights.{AreSteady, Flight, Flying, boarded, boarding, flight, flight_public, turns, turns_of}
-use Rattle.ob_script.specs.Trace.{Served}
+use Rattle.ob_script.specs.Flights.{Flight, boarded, flight, turns_of}
 use Rattle.ob_script.proofs.FlightEnds.{settled}
 use Rattle.ob_script.proofs.FlightLemmas.{grows_turns}
-use Rattle.ob_sql.specs.Skeleton.{skeleton}
-use Rattle.ob_sql.specs.declared.stmt.Stmt.{Stmt}
 use Rattle.ob_exec.specs.InFlight.{served_as}
 use Rattle.ob_exec.specs.RanFlight.{cut_off}
 use Rattle.ob_exec.proofs.FlightStage.{closed_of}

@@ -1,34 +1,14 @@
 -- A statement that stopped in an access of its own, or behind one.
-use Rattle.std.proofs.Common.{◌≡◌, ◌≤◌, ◌<◌, ◌+◌, ℕ, Bool, true, false, List, [], ◌∷◌, length, Option, Some, None, refl, sym, ◌∙◌, ap, subst, arith}
-use Rattle.std.specs.Prelude.{nat_le, nat_lt, take, unwrap_or}
-use Rattle.std.proofs.lemmas.Bool.{le-leb}
+use Rattle.ob_exec.proofs.Words.{Access, act_of, AfterCount, ap, AreHeld, arith, Bool, count_end, Create, Cut, cut_at, Delete, Draws, End, false, flight_public, held_empty, held_if, Index, Insert, is_access, Joined, Lawful, le-leb, length, List, nat_le, nat_lt, None, Option, Plan, Progress, Public, refl, refusal_now, same_script, script, Seen, Served, Skeleton, skeleton, Some, Static, Stmt, subst, sym, Tables, take, true, until_end, Update, walk_end, Whole, whole_script, World, ℕ, [], ◌+◌, ◌<◌, ◌∙◌, ◌∷◌, ◌≡◌, ◌≤◌}
+use Rattle.std.specs.Prelude.{unwrap_or}
 use Rattle.std.proofs.lemmas.List.{length-take}
 use Rattle.std.proofs.lemmas.Option.{slice_get_within}
-use Rattle.ob_base.specs.declared.access.Access.{Access}
-use Rattle.ob_base.specs.declared.config.Plan.{Plan}
-use Rattle.ob_base.specs.declared.config.Public.{Public}
-use Rattle.ob_base.specs.declared.seen.End.{End}
-use Rattle.ob_base.specs.declared.seen.End.TheVariants.{Static, Whole, AfterCount, Joined, Cut}
-use Rattle.ob_base.specs.declared.seen.Seen.{Seen}
-use Rattle.ob_base.specs.declared.skeleton.Skeleton.{Skeleton}
-use Rattle.ob_inflight.specs.Progress.{Progress, act_of}
-use Rattle.ob_mean.specs.Lawful.{HoldsLeaf, Holds, Lawful}
-use Rattle.ob_mean.specs.Replay.{count_end, cut_at, held_if, is_access, walk_end}
-use Rattle.ob_mean.specs.Verdict.{Draws, Tables, seen as seen_by, seen_by as seen_rows_by, seen_started}
-use Rattle.ob_oram.specs.declared.index.Index.{Index}
-use Rattle.ob_script.specs.Flights.{IsSteady, asked_at, flight_public}
-use Rattle.ob_script.specs.Script.{script, until_end, whole_script}
-use Rattle.ob_script.specs.Trace.{Served}
-use Rattle.ob_sql.specs.Skeleton.{skeleton}
-use Rattle.ob_select.proofs.SelectHeld.{held_empty}
-use Rattle.ob_sql.specs.declared.stmt.Stmt.{Stmt}
-use Rattle.ob_sql.specs.declared.stmt.Stmt.TheVariants.{Create, Insert, Update, Delete, Drop as DropTable, SelectRows as RowsStmt, SelectTotals as TotalsStmt}
-use Rattle.ob_tables.specs.Telling.{AreHeld}
+use Rattle.ob_mean.specs.Lawful.{HoldsLeaf, Holds}
+use Rattle.ob_mean.specs.Verdict.{seen as seen_by, seen_by as seen_rows_by, seen_started}
+use Rattle.ob_script.specs.Flights.{IsSteady, asked_at}
+use Rattle.ob_sql.specs.declared.stmt.Stmt.TheVariants.{Drop as DropTable, SelectRows as RowsStmt, SelectTotals as TotalsStmt}
 use Rattle.ob_tables.proofs.ToldLemmas.{started_seen}
-use Rattle.ob_vault.specs.State.{World}
-use Rattle.ob_verdict.proofs.LawfulProof.{same_script}
 use Rattle.ob_verdict.proofs.SeenProof.{started-unread}
-use Rattle.ob_verdict.specs.Outcomes.{refusal_now}
 use Rattle.ob_mean.specs.Standing.{StandsAs}
 
 -- ---- one access more
@@ -118,13 +98,8 @@ single_by None n q size (i ∷ is) = refl
 single_by (Some pad) n q size places = refl
 
 single_started : (n : ℕ) (q : Public) (tables : Tables) (stmt : Stmt) → (seen_started (flight_public n q) tables stmt).then ≡ None
-single_started n q tables (Create a b c e) = refl
-single_started n q tables (Insert a b c) = refl
-single_started n q tables (Update a b c) = refl
-single_started n q tables (Delete a b) = refl
-single_started n q tables (DropTable a) = refl
 single_started n q tables (RowsStmt select) = single_by q.pad n q _ _
-single_started n q tables (TotalsStmt select) = refl
+single_started n q tables other = refl
 
 -- no second plan is seen of it, and no leaf
 module _ (n : ℕ) (q : Public) (m : ℕ) (stmt : Stmt) (now : refusal_now (flight_public n q) m stmt ≡ None) (flat : is_access (flight_public n q) (skeleton stmt) ≡ false)

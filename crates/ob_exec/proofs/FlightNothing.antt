@@ -1,58 +1,23 @@
 -- Want of memory before a flight: nothing was asked.
-use Rattle.std.proofs.Common.{◌≡◌, inl, ◌≤◌, ℕ, suc, Bool, ◌||◌, true, false, List, [], ◌∷◌, ◌++◌, map, length, take, Option, Some, None, Err, refl, sym, ◌∙◌, ap, subst, arith, append-nil}
-use Rattle.std.specs.Prelude.{bytes_eq, drop, is_some, nat_le, nat_lt, not, slice_get}
-use Rattle.std.specs.List.{list_any}
-use Rattle.std.proofs.lemmas.List.{length-map}
+use Rattle.ob_exec.proofs.Words.{Access, Agrees, allowed, ap, append-nil, arith, asked_by, asked_since, Bool, ChangesNothing, count_end, count_of, Create, Cut, cut_at, Delete, Draws, drop, Engine, engine_behind, Err, Event, false, flight_public, has_table, Hash, headings_of, held_empty, in_flight, inl, Insert, is_access, is_cut, is_late, is_some, is_there, IsAt, IsMeant, later_rests, Lawful, length, length-map, limits_of, List, list_any, map, merge, nat_le, nat_lt, None, not, Option, Outcome, partly_none, Plan, Public, RanFlight, ReadsTrueUntil, refl, Refusal, refusal_now, RevState, Seen, SelectsFromOne, Skeleton, skeleton, slice_get, Small, Some, Source, source_tables, Stmt, StoreState, subst, suc, sym, Tables, take, true, unfit_none, Update, walk_end, went_rests, Whole, world_of, ℕ, [], ◌++◌, ◌||◌, ◌∙◌, ◌∷◌, ◌≡◌, ◌≤◌}
+use Rattle.std.specs.Prelude.{bytes_eq}
 use Rattle.std.proofs.lemmas.Option.{same_Some}
-use Rattle.ob_base.specs.Events.{Event}
-use Rattle.ob_base.specs.declared.access.Access.{Access}
-use Rattle.ob_base.specs.declared.config.Plan.{Plan}
-use Rattle.ob_base.specs.declared.config.Plan.TheVariants.{Small, Large, Continuous, Hash}
-use Rattle.ob_base.specs.declared.config.Public.{Public}
-use Rattle.ob_base.specs.declared.refusal.Refusal.{Refusal}
+use Rattle.ob_base.specs.declared.config.Plan.TheVariants.{Large, Continuous}
 use Rattle.ob_base.specs.declared.schema.Table.{Table}
-use Rattle.ob_base.specs.declared.seen.End.TheVariants.{Whole, Cut}
-use Rattle.ob_base.specs.declared.seen.Seen.{Seen}
-use Rattle.ob_base.specs.declared.skeleton.Skeleton.{Skeleton}
-use Rattle.ob_base.specs.declared.skeleton.Source.{Source}
-use Rattle.ob_base.specs.Stored.{has_table, headings_of}
-use Rattle.ob_mean.specs.Batches.{is_cut}
-use Rattle.ob_mean.specs.Lawful.{Lawful}
-use Rattle.ob_mean.specs.Refusals.{limits_of, source_tables}
-use Rattle.ob_mean.specs.Replay.{count_end, cut_at, is_access, walk_end}
-use Rattle.ob_mean.specs.Verdict.{Draws, Tables, ended, is_late, seen_by as seen_padded, seen_started, seen_with}
-use Rattle.ob_mean.proofs.EarlyLemmas.{allowed}
-use Rattle.ob_script.specs.FlightLaws.{SelectsFromOne, one_if, total}
-use Rattle.ob_script.specs.Flights.{flight_public, merge}
-use Rattle.ob_select.proofs.SelectHeld.{held_empty}
-use Rattle.ob_sql.specs.Skeleton.{skeleton}
+use Rattle.ob_mean.specs.Verdict.{ended, seen_by as seen_padded, seen_started, seen_with}
+use Rattle.ob_script.specs.FlightLaws.{one_if, total}
 use Rattle.ob_sql.specs.declared.stmt.SelectRows.{SelectRows}
-use Rattle.ob_sql.specs.declared.stmt.Stmt.{Stmt}
-use Rattle.ob_sql.specs.declared.stmt.Stmt.TheVariants.{Create, Insert, Update, Delete, Drop as DropTable, SelectRows as RowsStmt, SelectTotals as TotalsStmt}
-use Rattle.ob_stages.proofs.TotalsLemmas.{partly_none}
-use Rattle.ob_store.specs.Calls.{ChangesNothing}
-use Rattle.ob_store.specs.State.{StoreState}
-use Rattle.ob_store.proofs.Steps.{later_rests}
-use Rattle.ob_tables.specs.Agreeing.{Agrees, count_of, world_of}
-use Rattle.ob_tables.specs.Engines.{IsAt}
-use Rattle.ob_tables.specs.Telling.{ReadsTrueUntil}
-use Rattle.ob_tables.specs.declared.engine.Engine.{Engine}
+use Rattle.ob_sql.specs.declared.stmt.Stmt.TheVariants.{Drop as DropTable, SelectRows as RowsStmt, SelectTotals as TotalsStmt}
 use Rattle.ob_tables.specs.declared.stop.RunStop.TheVariants as Stops
-use Rattle.ob_tables.proofs.EmitLemmas.{unfit_none}
-use Rattle.ob_tables.proofs.FoundLemmas.{is_there}
 use Rattle.ob_tables.proofs.LawfulLemmas.{lawful_refused}
 use Rattle.ob_tables.proofs.RunLemmas.{opens_none}
 use Rattle.ob_tables.proofs.SealLemmas.{keeps_rests}
 use Rattle.ob_tables.proofs.TableLemmas.{named}
 use Rattle.ob_tables.proofs.ToldLemmas.{started_seen}
 use Rattle.ob_vault.specs.Calls.{Apart}
-use Rattle.ob_vault.specs.State.{RevState}
-use Rattle.ob_vault.proofs.WordLemmas.{went_rests}
-use Rattle.ob_verdict.specs.Outcomes.{refusal_now}
-use Rattle.ob_verdict.specs.declared.outcome.Outcome.{Outcome}
-use Rattle.ob_exec.specs.Boarding.{engine_behind, seen_first, seen_if}
-use Rattle.ob_exec.specs.InFlight.{AreFlight, Flies, IsFlown, IsMeant, served_as}
-use Rattle.ob_exec.specs.RanFlight.{RanFlight, RanInTurns, StopsFlight, asked_by, asked_since, cut_off, in_flight}
+use Rattle.ob_exec.specs.Boarding.{seen_first, seen_if}
+use Rattle.ob_exec.specs.InFlight.{AreFlight, Flies, IsFlown, served_as}
+use Rattle.ob_exec.specs.RanFlight.{RanInTurns, StopsFlight, cut_off}
 use Rattle.ob_exec.proofs.FlightTurned.{stops_unturned}
 use Rattle.ob_exec.proofs.BoardOne.{early_same, from_one}
 use Rattle.ob_exec.proofs.FlightBoards.{flies_in}
@@ -79,9 +44,7 @@ named_in name (t ∷ ts) has = head (bytes_eq t.heading.name name) refl (named_i
 -- ---- what is seen in the end shows nothing before anything is asked
 shows_alone : (n : ℕ) (p : Public) (plan : Plan) (places : List ℕ) → plan ≡ Small → ((seen_with (flight_public n p) plan places).then ≡ None) × ((seen_with (flight_public n p) plan places).leaf ≡ None)
 shows_alone n p Small places is = (refl, refl)
-shows_alone n p Large places is = absurd (cc is)
-shows_alone n p Continuous places is = absurd (cc is)
-shows_alone n p Hash places is = absurd (cc is)
+shows_alone n p other places is = absurd (cc is)
 
 shown_alone : (n : ℕ) (p : Public) (pad : Option ℕ) (slots : ℕ) (places : List ℕ) → ((seen_padded pad (flight_public n p) slots places).then ≡ None) × ((seen_padded pad (flight_public n p) slots places).leaf ≡ None)
 shown_alone n p None slots [] = (refl, refl)
@@ -200,15 +163,11 @@ module _ {R E : Type 0} (state : R → RevState) (grew cut : E → E → List Ev
         (some_of t.1.0.heading.capacity p.pack agrees.settings.pack_least least))
 
     starts_held : (x : Stmt) → stmt ≡ x → refusal_now p m stmt ≡ None → ended Whole ≡ record (cut_at false 0 (in_flight stmts p) (skeleton x) (seen_started (in_flight stmts p) tables x)) { end = Whole }
-    starts_held (Create table columns capacity shape) is free = absurd (subst (λ (x : Stmt). SelectsFromOne (skeleton x)) is flies.selects)
-    starts_held (Insert table columns values) is free = absurd (subst (λ (x : Stmt). SelectsFromOne (skeleton x)) is flies.selects)
-    starts_held (Update table sets search) is free = absurd (subst (λ (x : Stmt). SelectsFromOne (skeleton x)) is flies.selects)
-    starts_held (Delete table search) is free = absurd (subst (λ (x : Stmt). SelectsFromOne (skeleton x)) is flies.selects)
-    starts_held (DropTable table) is free = absurd (subst (λ (x : Stmt). SelectsFromOne (skeleton x)) is flies.selects)
     starts_held (RowsStmt select) is free =
         let alone = shown_alone (length stmts) p p.pad _ _ in
         held_nothing (in_flight stmts p) (rows_skeleton select) (seen_started (in_flight stmts p) tables (RowsStmt select)) alone.0 alone.1 (counts_some select is free)
     starts_held (TotalsStmt select) is free = held_plain (in_flight stmts p) (skeleton (TotalsStmt select))
+    starts_held other is free = absurd (subst (λ (x : Stmt). SelectsFromOne (skeleton x)) is flies.selects)
 
     meant_first : (o : Option Refusal) → refusal_now p m stmt ≡ o → IsMeant d (in_flight stmts p) m 0 0 tables stmt (seen_if o) None
     meant_first None is =

@@ -1,38 +1,17 @@
 -- What the turns of statements in flight come to: each stands as it should, and what was asked is what the words merge.
-use Rattle.std.proofs.Common.{◌≡◌, ◌≤◌, ◌<◌, ℕ, zero, suc, true, List, [], ◌∷◌, map, length, Option, Some, None, refl, sym, ◌∙◌, ap, subst, arith}
-use Rattle.std.specs.Prelude.{is_some, slice_get, take, unwrap_or}
-use Rattle.std.proofs.lemmas.List.{length-map}
-use Rattle.ob_base.specs.Events.{Event}
-use Rattle.ob_base.specs.declared.access.Access.{Access}
-use Rattle.ob_base.specs.declared.config.Public.{Public}
-use Rattle.ob_base.specs.declared.seen.Seen.{Seen}
-use Rattle.ob_base.specs.declared.skeleton.Skeleton.{Skeleton}
-use Rattle.ob_inflight.specs.Aloft.{AllMay, IsAloft, flight_in, setting_off}
-use Rattle.ob_inflight.specs.Closing.{Closed, events_at, outcome_at}
-use Rattle.ob_inflight.specs.Kinds.{Kind, Moment, share_at}
-use Rattle.ob_inflight.specs.Progress.{KeepsCourse, Progress, act_of, flying_of}
+use Rattle.ob_exec.proofs.Words.{Access, accesses_in, act_of, AllMay, AllMayFly, answer_labels, ap, AreNamed, AreSteady, arith, boarding, Closed, Draws, Emits, Emitted, Event, events_at, first_of_merge, flight_public, flying_of, in_flight, Index, is_access, is_some, IsAt, IsMeant, Kind, labels_of, length, length-map, List, map, merge, Moment, None, Option, Outcome, Partly, Progress, Public, refl, refusal_now, script, Seen, selection, SelectsFromOne, Served, setting_off, Skeleton, skeleton, slice_get, Some, Stmt, subst, suc, sym, Tables, take, true, turns, verdict, zero, ℕ, [], ◌<◌, ◌∙◌, ◌∷◌, ◌≡◌, ◌≤◌}
+use Rattle.std.specs.Prelude.{unwrap_or}
+use Rattle.ob_inflight.specs.Aloft.{IsAloft, flight_in}
+use Rattle.ob_inflight.specs.Closing.{outcome_at}
+use Rattle.ob_inflight.specs.Kinds.{share_at}
+use Rattle.ob_inflight.specs.Progress.{KeepsCourse}
 use Rattle.ob_mean.specs.Refusals.{tables_of}
-use Rattle.ob_mean.specs.Replay.{is_access}
-use Rattle.ob_mean.specs.Verdict.{Draws, Tables, verdict}
-use Rattle.ob_oram.specs.declared.index.Index.{Index}
-use Rattle.ob_script.specs.FlightLaws.{AllEnded, AllMayFly, MayFly, SelectsFromOne, acts_in}
-use Rattle.ob_script.specs.Flights.{AreSteady, Flight, accesses_in, asked_at, boarding, flight, flight_public, merge, next_flight, own, turns, turns_of}
-use Rattle.ob_script.specs.Script.{script}
-use Rattle.ob_script.specs.Trace.{Served}
+use Rattle.ob_script.specs.FlightLaws.{AllEnded, MayFly, acts_in}
+use Rattle.ob_script.specs.Flights.{Flight, asked_at, flight, next_flight, own, turns_of}
 use Rattle.ob_script.proofs.FlightLemmas.{flown_in_order}
-use Rattle.ob_script.proofs.FlightEnds.{acts_are_all, ended_is_flight, first_of_merge, own_long}
-use Rattle.ob_emit.specs.Emitting.{labels_of}
-use Rattle.ob_sql.specs.Skeleton.{skeleton}
+use Rattle.ob_script.proofs.FlightEnds.{acts_are_all, ended_is_flight, own_long}
 use Rattle.ob_sql.specs.declared.stmt.Stmt.TheVariants.{SelectRows as RowsStmt}
-use Rattle.ob_sql.specs.declared.stmt.Stmt.{Stmt}
-use Rattle.ob_tables.specs.Engines.{IsAt}
-use Rattle.ob_tables.proofs.TableLemmas.{AreNamed}
-use Rattle.ob_tables.specs.Telling.{Emitted, answer_labels}
-use Rattle.ob_verdict.specs.Outcomes.{Emits, Partly, refusal_now}
-use Rattle.ob_verdict.specs.declared.outcome.Outcome.{Outcome}
-use Rattle.ob_exec.specs.InFlight.{IsFlown, IsMeant, served_as}
-use Rattle.ob_exec.specs.RanFlight.{in_flight}
-use Rattle.ob_exec.specs.Sources.{selection}
+use Rattle.ob_exec.specs.InFlight.{IsFlown, served_as}
 use Rattle.ob_exec.proofs.FlightLists.{acts_same, all_may, closed_at, flying_back, flying_get, get_first, get_mapped, get_other, log_first, past_none, served_same, sets_off}
 use Rattle.ob_exec.proofs.FlightStage.{HasTable, HoldNow, IsSet, IsStage, closed_of}
 

@@ -1,41 +1,15 @@
 -- What a flight takes from its statements: how each stands, whatever the store answers, and what it means.
-use Rattle.std.proofs.Common.{◌≡◌, ◌⊎◌, ◌+◌, ◌-◌, ◌≤◌, ℕ, Bool, true, false, IsTrue, List, [], ◌∷◌, ◌++◌, length, Option, Some, None}
-use Rattle.std.specs.Prelude.{drop, is_some, option_map}
-use Rattle.ob_base.specs.Events.{Event}
-use Rattle.ob_base.specs.declared.access.Access.{Access}
-use Rattle.ob_base.specs.declared.config.Public.{Public}
+use Rattle.ob_exec.proofs.Words.{Access, act_of, answer_labels, AreHeld, AreInPlace, AreNamed, Bool, Closed, count_end, Cut, cut_at, Draws, drop, Emits, Emitted, Event, false, flat_of, Index, is_access, is_cut, is_of_access, is_some, IsAt, IsMeant, IsTrue, IsUnfit, Kind, labels_of, length, List, None, OpErr, Option, Outcome, Partly, Progress, Public, refusal_now, Seen, selection, Served, skeleton, Some, Tables, true, verdict, whole_script, World, ℕ, [], ◌++◌, ◌+◌, ◌-◌, ◌∷◌, ◌≡◌, ◌≤◌, ◌⊎◌}
+use Rattle.std.specs.Prelude.{option_map}
 use Rattle.ob_base.specs.declared.schema.Shape.TheVariants.{Flat as FlatShape}
 use Rattle.ob_base.specs.declared.schema.Table.{Table}
-use Rattle.ob_base.specs.declared.seen.End.TheVariants.{Cut}
-use Rattle.ob_base.specs.declared.seen.Seen.{Seen}
-use Rattle.ob_flat.specs.declared.fault.OpErr.{OpErr}
 use Rattle.ob_flat.specs.declared.fault.OpErr.TheVariants as OpErrs
-use Rattle.ob_flat.specs.Passes.{is_of_access}
-use Rattle.ob_inflight.specs.Closing.{Closed}
-use Rattle.ob_inflight.specs.Kinds.{Kind}
-use Rattle.ob_inflight.specs.Progress.{Progress, act_of}
-use Rattle.ob_mean.specs.Batches.{is_cut}
 use Rattle.ob_mean.specs.Refusals.{tables_of}
-use Rattle.ob_mean.specs.Replay.{count_end, cut_at, is_access}
-use Rattle.ob_mean.specs.Verdict.{Draws, Tables, seen as seen_by, verdict}
-use Rattle.ob_oram.specs.declared.index.Index.{Index}
-use Rattle.ob_script.specs.Script.{whole_script}
-use Rattle.ob_script.specs.Trace.{Served}
+use Rattle.ob_mean.specs.Verdict.{seen as seen_by}
 use Rattle.ob_select.specs.Memory.{AtEmission, AtResult, is_make}
-use Rattle.ob_emit.specs.Emitting.{labels_of}
-use Rattle.ob_sql.specs.Skeleton.{skeleton}
 use Rattle.ob_sql.specs.declared.stmt.SelectRows.{SelectRows}
 use Rattle.ob_sql.specs.declared.stmt.Stmt.TheVariants.{SelectRows as RowsStmt}
-use Rattle.ob_tables.specs.Engines.{IsAt, flat_of}
-use Rattle.ob_tables.proofs.TableLemmas.{AreNamed}
-use Rattle.ob_tables.specs.Telling.{AreHeld, Emitted, answer_labels}
-use Rattle.ob_vault.specs.State.{World}
-use Rattle.ob_vault.specs.Tied.{IsUnfit}
-use Rattle.ob_verdict.specs.Laws.{AreInPlace}
-use Rattle.ob_verdict.specs.Outcomes.{Emits, Partly, refusal_now}
-use Rattle.ob_verdict.specs.declared.outcome.Outcome.{Outcome}
-use Rattle.ob_exec.specs.InFlight.{IsFlown, IsMeant}
-use Rattle.ob_exec.specs.Sources.{selection}
+use Rattle.ob_exec.specs.InFlight.{IsFlown}
 
 -- a world holds these tables, the store tells, and each block that was read is the one written last
 pub record HoldNow (p : Public) (indexes : List Index) (tables : Tables) (w : World) : Type 0 where

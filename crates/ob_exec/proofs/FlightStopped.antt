@@ -1,53 +1,17 @@
 -- A flight that was stopped.
-use Rattle.std.proofs.Common.{◌≡◌, ◌⊎◌, ◌≤◌, ◌<◌, ◌++◌, ℕ, Bool, true, false, IsTrue, List, [], ◌∷◌, map, length, Option, Some, None, Err, refl, sym, ◌∙◌, ap, subst, inl, inr, arith, length-append}
-use Rattle.std.specs.Prelude.{drop, slice_get}
-use Rattle.std.proofs.lemmas.List.{length-map}
-use Rattle.ob_base.specs.Events.{Event}
-use Rattle.ob_base.specs.declared.access.Access.{Access}
-use Rattle.ob_base.specs.declared.config.Public.{Public}
-use Rattle.ob_base.specs.declared.emit.EmitErr.{EmitErr}
+use Rattle.ob_exec.proofs.Words.{Access, act_of, Agrees, AllMayFly, ap, AreSteady, arith, asked_by, asked_since, at, Bool, Calm, ChangesNothing, Closed, count_end, count_of, Cut, cut_at, done_of, Draws, drop, EmitErr, End, Engine, engine_behind, Err, Event, events_at, false, flight_public, halt_of, in_flight, inl, inr, is_access, is_refused, IsFree, IsMeant, IsNotTampered, IsTrue, IsUnfit, Kind, Lawful, length, length-append, length-map, List, map, Moment, None, OpErr, Option, Outcome, Public, ReadsTrueUntil, refl, Refusal, refusal_now, RevState, RoomState, script, Seen, Served, SinkCause, SinkStops, skeleton, slice_get, Some, Stmt, StoreState, subst, sym, Tables, taker_of, true, unfit_none, Vault, Whole, World, world_of, ℕ, [], ◌++◌, ◌<◌, ◌∙◌, ◌∷◌, ◌≡◌, ◌≤◌, ◌⊎◌}
 use Rattle.ob_base.specs.declared.emit.EmitErr.TheVariants as EmitErrs
-use Rattle.ob_base.specs.declared.refusal.Refusal.{Refusal}
-use Rattle.ob_base.specs.declared.seen.End.{End}
-use Rattle.ob_base.specs.declared.seen.End.TheVariants.{Whole, Cut}
-use Rattle.ob_base.specs.declared.seen.Seen.{Seen}
-use Rattle.ob_flat.specs.declared.fault.OpErr.{OpErr}
 use Rattle.ob_flat.specs.declared.fault.OpErr.TheVariants as OpErrs
-use Rattle.ob_flat.specs.Passes.{PassCause, SinkCause}
+use Rattle.ob_flat.specs.Passes.{PassCause}
 use Rattle.ob_inflight.specs.Answers.{EndsBy, error_of}
-use Rattle.ob_inflight.specs.Closing.{Closed, events_at}
 use Rattle.ob_inflight.specs.Flown as Flown
-use Rattle.ob_inflight.specs.Kinds.{Kind, Moment, share_at, taker_of}
-use Rattle.ob_inflight.specs.Progress.{act_of}
-use Rattle.ob_mean.specs.Lawful.{Lawful}
-use Rattle.ob_mean.specs.Replay.{count_end, cut_at, done_of, is_access}
-use Rattle.ob_mean.specs.Verdict.{Draws, Tables, seen as seen_by}
-use Rattle.ob_room.specs.RoomState.{RoomState}
-use Rattle.ob_script.specs.FlightLaws.{AllMayFly}
-use Rattle.ob_script.specs.Flights.{AreSteady, IsSteady, flight_public}
-use Rattle.ob_script.specs.Script.{script}
-use Rattle.ob_script.specs.Trace.{Served}
+use Rattle.ob_inflight.specs.Kinds.{share_at}
+use Rattle.ob_mean.specs.Verdict.{seen as seen_by}
+use Rattle.ob_script.specs.Flights.{IsSteady}
 use Rattle.ob_select.specs.Memory.{ends_with_make, is_make}
-use Rattle.ob_select.specs.Settings.{IsFree}
-use Rattle.ob_sql.specs.Skeleton.{skeleton}
-use Rattle.ob_sql.specs.declared.stmt.Stmt.{Stmt}
-use Rattle.ob_store.specs.Calls.{ChangesNothing}
-use Rattle.ob_store.specs.State.{StoreState}
-use Rattle.ob_tables.specs.Agreeing.{Agrees, count_of, world_of}
-use Rattle.ob_tables.specs.Running.{SinkStops}
-use Rattle.ob_tables.specs.Telling.{IsNotTampered, ReadsTrueUntil, is_refused}
-use Rattle.ob_tables.specs.declared.engine.Engine.{Engine}
 use Rattle.ob_tables.specs.declared.stop.RunStop.TheVariants as Stops
-use Rattle.ob_tables.proofs.EmitLemmas.{unfit_none}
-use Rattle.ob_vault.specs.Places.{at}
-use Rattle.ob_vault.specs.State.{RevState, World}
-use Rattle.ob_vault.specs.Tied.{Calm, IsUnfit}
-use Rattle.ob_vault.specs.declared.vault.Vault.{Vault}
-use Rattle.ob_verdict.specs.Outcomes.{refusal_now}
-use Rattle.ob_verdict.specs.declared.outcome.Outcome.{Outcome}
-use Rattle.ob_exec.specs.InFlight.{IsFlown, IsMeant}
-use Rattle.ob_exec.specs.RanFlight.{FlightCause, StopsClosing, asked_by, asked_since, halt_of, in_flight}
-use Rattle.ob_exec.specs.Boarding.{engine_behind}
+use Rattle.ob_exec.specs.InFlight.{IsFlown}
+use Rattle.ob_exec.specs.RanFlight.{FlightCause, StopsClosing}
 use Rattle.ob_exec.proofs.FlightFrames.{calm_start, hold_now}
 use Rattle.ob_exec.proofs.FlightLists.{get_mapped, get_other}
 use Rattle.ob_exec.proofs.FlightMore.{asks_within, ends_whole, held_more, meant_single, meant_unread, stands_more}
@@ -129,16 +93,12 @@ prints_or true = inl refl
 prints_or false = inr refl
 
 pub memory_is : (e : OpErr) → halt_of e ≡ Stops.NoMemory → e ≡ OpErrs.NoMemory
-memory_is OpErrs.Failed is = absurd (cc is)
-memory_is (OpErrs.Tampered q x) is = absurd (cc is)
-memory_is OpErrs.Sink is = absurd (cc is)
 memory_is OpErrs.NoMemory is = refl
+memory_is other is = absurd (cc is)
 
 pub not_tampered : (e : OpErr) → ((q x : ℕ) → e ≡ OpErrs.Tampered q x → ⊥) → IsNotTampered (halt_of e)
-not_tampered OpErrs.Failed never = refl
 not_tampered (OpErrs.Tampered q x) never = absurd (never q x refl)
-not_tampered OpErrs.Sink never = refl
-not_tampered OpErrs.NoMemory never = refl
+not_tampered other never = refl
 
 -- a world in which no changed block was read
 pub calm_none : (w : World) → w.store.lie ≡ None → Calm w

@@ -1,40 +1,20 @@
 -- Whose the accesses are that were asked until a flight was stopped.
-use Rattle.std.proofs.Common.{◌≡◌, ◌⊎◌, ◌<◌, ◌≤◌, ◌+◌, ◌-◌, ◌++◌, ℕ, Bool, true, false, IsTrue, List, [], ◌∷◌, map, length, Option, Some, None, refl, sym, ◌∙◌, ap, subst, inl, inr, arith, append_assoc, length-append}
-use Rattle.std.specs.Prelude.{is_some, nat_lt, slice_get, take}
-use Rattle.std.proofs.lemmas.Bool.{cases_eq, cases_lt, false≢true}
-use Rattle.std.proofs.lemmas.List.{append-nil, length-map, map-append}
-use Rattle.ob_base.specs.Events.{Event}
-use Rattle.ob_base.specs.declared.access.Access.{Access}
-use Rattle.ob_base.specs.declared.config.Public.{Public}
-use Rattle.ob_base.specs.declared.emit.EmitErr.{EmitErr}
+use Rattle.ob_exec.proofs.Words.{Access, accesses_in, AllMayFly, ap, append-nil, append_assoc, AreSteady, arith, asked_by, asked_since, boarding, Bool, cases_eq, cases_lt, ChangesNothing, count_of, done_of, EmitErr, EndedWithin, Engine, Event, false, first_of_merge, Flying, flying_of, halt_of, inl, inr, is_of_access, is_refused, is_some, IsTrue, Kind, length, length-append, length-map, List, map, merge, Moment, nat_lt, None, OpErr, Option, Outcome, Public, refl, RevState, Served, setting_off, slice_get, Some, Stmt, StoreState, subst, sym, take, taker_of, true, turns, World, world_of, ℕ, [], ◌++◌, ◌+◌, ◌-◌, ◌<◌, ◌∙◌, ◌∷◌, ◌≡◌, ◌≤◌, ◌⊎◌}
+use Rattle.std.proofs.lemmas.Bool.{false≢true}
+use Rattle.std.proofs.lemmas.List.{map-append}
 use Rattle.ob_base.specs.declared.emit.EmitErr.TheVariants as EmitErrs
-use Rattle.ob_flat.specs.declared.fault.OpErr.{OpErr}
 use Rattle.ob_flat.specs.declared.fault.OpErr.TheVariants as OpErrs
-use Rattle.ob_flat.specs.Passes.{is_of_access}
-use Rattle.ob_inflight.specs.Aloft.{flight_in, setting_off}
+use Rattle.ob_inflight.specs.Aloft.{flight_in}
 use Rattle.ob_inflight.specs.Answers.{error_of}
 use Rattle.ob_inflight.specs.Flown.{StopsInStep}
 use Rattle.ob_inflight.specs.Flown as Flown
-use Rattle.ob_inflight.specs.Kinds.{Kind, Moment, taker_of}
-use Rattle.ob_inflight.specs.Progress.{flying_of}
-use Rattle.ob_mean.specs.Replay.{done_of}
-use Rattle.ob_script.specs.FlightLaws.{AllMayFly, PicksOne}
-use Rattle.ob_script.specs.Flights.{AreSteady, Flight, Flying, accesses_in, acted, boarding, entry_of, flight, merge, next_act, own, prints, turns, own_asked}
-use Rattle.ob_script.specs.Trace.{Served}
-use Rattle.ob_script.proofs.FlightEnds.{first_of_merge}
+use Rattle.ob_script.specs.FlightLaws.{PicksOne}
+use Rattle.ob_script.specs.Flights.{Flight, acted, entry_of, flight, next_act, own, prints, own_asked}
 use Rattle.ob_script.proofs.FlightLemmas.{own_append, own_entry, own_other}
 use Rattle.ob_script.proofs.FlightTurns.{goes_or_rests, turns_more}
 use Rattle.ob_script.proofs.ListPlaces.{get_set_same, get_take}
-use Rattle.ob_sql.specs.declared.stmt.Stmt.{Stmt}
-use Rattle.ob_store.specs.Calls.{ChangesNothing}
-use Rattle.ob_store.specs.State.{StoreState}
-use Rattle.ob_tables.specs.Agreeing.{count_of, world_of}
-use Rattle.ob_tables.specs.Telling.{is_refused}
-use Rattle.ob_tables.specs.declared.engine.Engine.{Engine}
-use Rattle.ob_vault.specs.State.{RevState, World}
-use Rattle.ob_verdict.specs.declared.outcome.Outcome.{Outcome}
 use Rattle.ob_exec.specs.InFlight.{served_as}
-use Rattle.ob_exec.specs.RanFlight.{EndedWithin, InEnd, InTurn, StopsInTurn, asked_by, asked_next, asked_since, halt_of}
+use Rattle.ob_exec.specs.RanFlight.{InEnd, InTurn, StopsInTurn, asked_next}
 use Rattle.ob_exec.proofs.FlightEnd.{since_long}
 use Rattle.ob_exec.proofs.FlightLists.{flying_back, flying_get, log_first, map_put}
 use Rattle.ob_exec.proofs.FlightRuns.{Boards, as_many, first_now, may_now, merged_now, own_now, served_now, sets_now, steady_now, turned_now}
@@ -78,10 +58,8 @@ emitter_quiet EmitErrs.Failed = refl
 emitter_quiet EmitErrs.NoMemory = refl
 
 refused_access : (e : OpErr) → is_refused (halt_of e) ≡ true → IsTrue (is_of_access e)
-refused_access OpErrs.Failed is = absurd (cc is)
 refused_access (OpErrs.Tampered q x) is = refl
-refused_access OpErrs.Sink is = absurd (cc is)
-refused_access OpErrs.NoMemory is = absurd (cc is)
+refused_access other is = absurd (cc is)
 
 pub no_access : (e : OpErr) → (e ≡ OpErrs.Failed → ⊥) → is_refused (halt_of e) ≡ false → is_of_access e ≡ false
 no_access OpErrs.Failed never is = absurd (never refl)

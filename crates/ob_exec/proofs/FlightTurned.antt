@@ -1,10 +1,8 @@
 -- In which turn a flight stops: which have ended by then.
-use Rattle.std.proofs.Common.{◌≡◌, ℕ, Bool, true, false, List, length, Option, refl, sym, ◌∙◌, ap, arith}
-use Rattle.std.specs.Prelude.{is_some, nat_lt, option_map}
-use Rattle.ob_base.specs.declared.config.Public.{Public}
-use Rattle.ob_inflight.specs.Closing.{Closed, outcome_at}
-use Rattle.ob_script.specs.Flights.{Flying, boarded, turns}
-use Rattle.ob_script.specs.Trace.{Served}
+use Rattle.ob_exec.proofs.Words.{ap, arith, Bool, Closed, false, Flying, is_some, length, List, nat_lt, Option, Public, refl, Served, sym, true, turns, ℕ, ◌∙◌, ◌≡◌}
+use Rattle.std.specs.Prelude.{option_map}
+use Rattle.ob_inflight.specs.Closing.{outcome_at}
+use Rattle.ob_script.specs.Flights.{boarded}
 use Rattle.ob_stages.proofs.RowsPlaces.{less_so, not_less}
 use Rattle.ob_exec.specs.RanFlight.{StopsInTurn}
 use Rattle.ob_exec.proofs.FlightLists.{get_mapped, none_past}

@@ -1,39 +1,27 @@
 -- A statement, from the engine's own share of it and what follows that.
-use Rattle.std.proofs.Common.{◌≡◌, ◌≢◌, ◌≤◌, ◌-◌, ◌++◌, ℕ, Bool, true, false, List, [], length, Option, None, Result, Ok, Err, refl, sym, ◌∙◌, ap, subst, arith, length-append}
-use Rattle.std.specs.Prelude.{◌&&◌, IfErr, IfOk, MatchResult, OnOk}
-use Rattle.ob_base.specs.Events.{Event}
-use Rattle.ob_base.specs.declared.access.Access.{Access}
-use Rattle.ob_base.specs.declared.config.Public.{Public}
+use Rattle.ob_exec.proofs.Words.{Access, Agrees, ap, arith, Bool, changes_tables, Cut, End, ended_at, Engine, Err, Event, false, HasHalted, IfErr, IfOk, is_due, is_saved, KeeperState, KeySet, length, length-append, List, None, Ok, OnOk, Option, Outcome, Public, refl, Result, RevState, run_script, RunStop, SavesTables, Serves, SinkStops, skeleton, Stmt, Stopped, StoreState, subst, sym, true, Whole, ℕ, [], ◌&&◌, ◌++◌, ◌-◌, ◌∙◌, ◌≡◌, ◌≤◌}
+use Rattle.std.proofs.Common.{◌≢◌}
+use Rattle.std.specs.Prelude.{MatchResult}
 use Rattle.ob_base.specs.declared.refusal.Refusal.TheVariants as Refusals
-use Rattle.ob_base.specs.declared.seen.End.TheVariants.{Whole}
-use Rattle.ob_reopen.specs.Keepers.{KeeperState}
-use Rattle.ob_script.specs.Saved.{left_then, run_script}
-use Rattle.ob_script.specs.Script.{changes_tables, is_saved}
-use Rattle.ob_seal.specs.KeySet.{KeySet, pair_of}
-use Rattle.ob_select.specs.Memory.{HasHalted}
-use Rattle.ob_sql.specs.Skeleton.{skeleton}
-use Rattle.ob_sql.specs.declared.stmt.Stmt.{Stmt}
-use Rattle.ob_store.specs.State.{StoreState}
+use Rattle.ob_script.specs.Saved.{left_then}
+use Rattle.ob_seal.specs.KeySet.{pair_of}
 use Rattle.ob_tables.proofs.GivenUpLemmas.{none_left}
 use Rattle.ob_tables.proofs.SavedLemmas.{waits_behind}
-use Rattle.ob_tables.specs.Agreeing.{Agrees, opened_from, replaced_of}
-use Rattle.ob_tables.specs.Running.{RanStatement, SinkStops}
+use Rattle.ob_tables.specs.Agreeing.{opened_from, replaced_of}
+use Rattle.ob_tables.specs.Running.{RanStatement, result_end}
 use Rattle.ob_tables.specs.Saving.{Waits}
-use Rattle.ob_tables.specs.Serving.{Answered, Serves, Stopped}
-use Rattle.ob_tables.specs.declared.engine.Engine.{Engine}
-use Rattle.ob_tables.specs.declared.stop.RunStop.{RunStop}
-use Rattle.ob_vault.specs.State.{HasNoneFrom, RevState}
-use Rattle.ob_verdict.specs.declared.outcome.Outcome.{Outcome}
+use Rattle.ob_tables.specs.Serving.{Answered}
+use Rattle.ob_vault.specs.State.{HasNoneFrom}
 use Rattle.ob_verdict.specs.declared.outcome.Outcome.TheVariants.{Refused}
 use Rattle.ob_exec.proofs.ChangedScripts.{both_are, saved_changes, saved_saves, whole_end}
 use Rattle.ob_exec.proofs.EmittedRuns.{answered_then, sink_then, stopped_then}
 use Rattle.ob_exec.proofs.PlainRuns.{carried_plain}
 use Rattle.ob_exec.proofs.SavedRuns.{carried_halted, carried_saved, end_own, few_mid, flat_mid}
 use Rattle.ob_exec.proofs.Shares.{Share, share_alone}
-use Rattle.ob_exec.specs.Behind.{IsBegun, SavesBehind, ended_at, is_due}
+use Rattle.ob_exec.specs.Behind.{IsBegun, SavesBehind}
 use Rattle.ob_exec.specs.Ran.{CarriedOut, Ran, ShowsNothing, WasNotSaved, is_whole}
 use Rattle.ob_exec.specs.declared.saving.Begun.{Begun}
-use Rattle.ob_exec.specs.Saving.{MayBeSaved, MaySave, SavesTables}
+use Rattle.ob_exec.specs.Saving.{MayBeSaved, MaySave}
 
 -- a list that goes on from another is no shorter
 goes_longer : (first more last : List Access) → last ≡ first ++ more → length first ≤ length last
@@ -41,6 +29,17 @@ goes_longer first more last is =
     let long = ap length is in
     let parts = length-append first more in
     omega (arith, long, parts)
+
+-- what was answered behind which nothing failed is the answer
+saved_so : {answer result : Result Outcome RunStop} {outcome : Outcome} (A : Type 0) (B : RunStop → Type 0) (saving : Result (Unit {0}) RunStop)
+    → MatchResult saving (λ done. (result ≡ answer) × A) (λ stop. (result ≡ Err stop) × B stop) → result ≡ Ok outcome → answer ≡ Ok outcome
+saved_so A B (Ok done) ends is = sym ends.0 ∙ is
+saved_so A B (Err stop) ends is = absurd (cc (ends.0, is))
+
+pub answered_so : {R : Type 0} (state : R → RevState) (due : Bool) (begun : Begun) (answer result : Result Outcome RunStop) (e : Engine R) (s : StoreState) (new : Engine R) (t : StoreState) (k0 k1 : KeeperState)
+    (outcome : Outcome) → SavesBehind state due begun answer result e s new t k0 k1 → result ≡ Ok outcome → answer ≡ Ok outcome
+answered_so state true begun answer result e s new t k0 k1 outcome follows is = saved_so _ _ follows.saving follows.ends is
+answered_so state false begun answer result e s new t k0 k1 outcome stays is = sym stays.answer_is ∙ is
 
 module _ {R : Type 0} (state : R → RevState) (stmt : Stmt) (owed : List Stmt) (Halts : Type 0) (old : Engine R) (s : StoreState) (mid : Engine R) (s1 : StoreState) (agrees : Agrees state old s)
     (settled : replaced_of old ≡ None) (begun : Begun) (as_begun : IsBegun old.public s stmt begun) where
@@ -65,6 +64,12 @@ module _ {R : Type 0} (state : R → RevState) (stmt : Stmt) (owed : List Stmt) 
   forgotten_then answer share is =
       subst (λ (q : ℕ). HasNoneFrom q (state mid.vault.revs)) (sym as_begun.next)
       (none_left state (skeleton stmt) old s mid s1 agrees (subst (λ (r : Result Outcome RunStop). RanStatement state (skeleton stmt) r old s mid s1) is share.ran))
+
+  -- behind one that the store failed no tables are due to be saved
+  pub undue_then : (answer : Result Outcome RunStop) → Share state stmt owed Halts answer old s mid s1 → answer ≡ Ok (Refused Refusals.StoreFault) → is_due begun.saved answer mid.seen.end ≡ false
+  undue_then answer share is =
+      let ends : mid.seen.end ≡ Cut (length s1.asked - length s.asked) = share.ran.ends ∙ ap (λ (r : Result Outcome RunStop). result_end r (length s1.asked - length s.asked)) is in
+      ap (λ (r : Result Outcome RunStop). is_due begun.saved r mid.seen.end) is ∙ ap (λ (e : End). is_whole e && begun.saved) ends
 
   pub counted_then : (answer : Result Outcome RunStop) → Share state stmt owed Halts answer old s mid s1 → begun.accesses ≤ length s1.asked
   counted_then answer share = let longer = goes_longer s.asked (run_script p (skeleton stmt) mid.seen) s1.asked share.ran.asked in let count = as_begun.accesses in omega (arith, longer, count)

@@ -1,16 +1,12 @@
 -- Which INSERTs begin a batch.
-use Rattle.std.specs.Prelude.{◌&&◌, None, Some, is_none, is_some, nat_le, not}
-use Rattle.std.proofs.Common.{◌≡◌, ◌<◌, ◌≤◌, ◌+◌, ◌-◌, ◌^◌, min, ℕ, Bool, true, false, List, Option, refl, sym, ap, ◌∙◌, arith}
-use Rattle.std.proofs.lemmas.Bool.{le-leb, le-ltb, lt-leb, lt-ltb}
-use Rattle.ob_base.specs.Stored.{headings_of}
-use Rattle.ob_base.specs.declared.config.Public.{Public}
-use Rattle.ob_base.specs.declared.refusal.Refusal.{Refusal}
+use Rattle.ob_exec.proofs.Words.{ap, arith, Bool, Create, Delete, early_refusal, false, headings_of, Insert, is_some, le-leb, limits_of, List, nat_le, None, not, Option, Public, refl, Refusal, skeleton, Some, Stmt, sym, true, Update, ℕ, ◌&&◌, ◌+◌, ◌-◌, ◌<◌, ◌^◌, ◌∙◌, ◌≡◌, ◌≤◌}
+use Rattle.std.specs.Prelude.{is_none}
+use Rattle.std.proofs.Common.{min}
+use Rattle.std.proofs.lemmas.Bool.{le-ltb, lt-leb, lt-ltb}
 use Rattle.ob_mean.specs.Batches.{batch_most, begins_batch, inserts_flat, is_unrefused, leaves_room}
-use Rattle.ob_mean.specs.Refusals.{early_refusal, is_index, limits_of}
-use Rattle.ob_sql.specs.Skeleton.{skeleton}
+use Rattle.ob_mean.specs.Refusals.{is_index}
 use Rattle.ob_sql.specs.declared.stmt.Literal.{Literal}
-use Rattle.ob_sql.specs.declared.stmt.Stmt.{Stmt}
-use Rattle.ob_sql.specs.declared.stmt.Stmt.TheVariants.{Create, Insert, Update, Delete, Drop as DropTable, SelectRows as RowsStmt, SelectTotals as TotalsStmt}
+use Rattle.ob_sql.specs.declared.stmt.Stmt.TheVariants.{Drop as DropTable, SelectRows as RowsStmt, SelectTotals as TotalsStmt}
 
 -- one of four is false
 second : (a b c d : Bool) → b ≡ false → (a && b && c && d) ≡ false
@@ -53,13 +49,8 @@ module _ (p : Public) (m : ℕ) (stmt : Stmt) where
 
 -- of a statement that is no INSERT
 pub no_insert : (p : Public) (stmt : Stmt) → ((table : List ℕ) (columns : Option (List (List ℕ))) (values : List Literal) → stmt ≡ Insert table columns values → ⊥) → inserts_flat p (skeleton stmt) ≡ false
-no_insert p (Create table columns capacity shape) not = refl
 no_insert p (Insert table columns values) not = absurd (not table columns values refl)
-no_insert p (Update table sets cond) not = refl
-no_insert p (Delete table cond) not = refl
-no_insert p (DropTable table) not = refl
-no_insert p (RowsStmt select) not = refl
-no_insert p (TotalsStmt select) not = refl
+no_insert p other not = refl
 
 -- of one whose table has an index, or hasn't
 pub flat_insert : (p : Public) (stmt : Stmt) (table : List ℕ) (columns : Option (List (List ℕ))) (values : List Literal) (b : Bool) → stmt ≡ Insert table columns values → is_index (headings_of p.tables) table ≡ b → inserts_flat p (skeleton stmt) ≡ not b

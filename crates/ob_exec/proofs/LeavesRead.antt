@@ -1,15 +1,14 @@
 -- The leaves that a session's accesses read are those of distinct draws, whatever the store answers.
-use Rattle.std.proofs.Common.{◌≡◌, ◌⊎◌, inl, inr, ◌<◌, ◌≤◌, ◌≢◌, ◌+◌, ℕ, zero, suc, Bool, false, List, [], ◌∷◌, ◌++◌, length, Option, Some, None, refl, sym, ◌∙◌, ap, subst, arith}
-use Rattle.std.specs.Prelude.{slice_get, slice_index_or, slice_set, IfSome}
+use Rattle.ob_exec.proofs.Words.{ap, arith, Bool, cases_eq, cases_lt, Draws, false, IfSome, Index, inl, inr, length, length-map, List, None, Option, refl, slice_get, Some, subst, suc, sym, zero, ℕ, [], ◌++◌, ◌+◌, ◌<◌, ◌∙◌, ◌∷◌, ◌≡◌, ◌≤◌, ◌⊎◌}
+use Rattle.std.proofs.Common.{◌≢◌}
+use Rattle.std.specs.Prelude.{slice_index_or, slice_set}
 use Rattle.std.specs.List.{remove}
 use Rattle.std.specs.Option.{option_map}
-use Rattle.std.proofs.lemmas.Bool.{cases_eq, cases_lt}
-use Rattle.std.proofs.lemmas.List.{get_or-map, length-map}
+use Rattle.std.proofs.lemmas.List.{get_or-map}
 use Rattle.std.proofs.lemmas.Option.{get_or_from_slice_get, slice_get_within}
 use Rattle.ob_base.specs.Indexes.{height_of, leaf_of_draw}
 use Rattle.ob_store.proofs.KeptLemmas.{length-tabulate, get_or-tabulate}
-use Rattle.ob_mean.specs.Verdict.{Draws, leaves_drawn, next_draw, next_draws}
-use Rattle.ob_oram.specs.declared.index.Index.{Index}
+use Rattle.ob_mean.specs.Verdict.{leaves_drawn, next_draw, next_draws}
 use Rattle.ob_oram.specs.Indexes.{leaves_of}
 use Rattle.ob_tables.specs.Leaves.{MovesLeaves, ReadsKey}
 use Rattle.ob_tables.proofs.DropLemmas.{Origin, origin}

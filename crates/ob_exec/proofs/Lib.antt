@@ -56,3 +56,4 @@ pub mod BoardTotals
 pub mod FlightBoards
 pub mod FlightNothing
 pub mod FlightFlown
+mod Words

@@ -1,73 +1,42 @@
 -- A statement behind which no tables are saved: the engine's share is all of it.
-use Rattle.std.proofs.Common.{◌≡◌, ◌⊎◌, inl, inr, ℕ, ◌+◌, ◌-◌, ◌≤◌, ◌++◌, Bool, true, false, List, length, take, None, Some, Option, Result, Ok, Err, refl, sym, ◌∙◌, ap, subst, arith, append_assoc, length-append}
+use Rattle.ob_exec.proofs.Words.{Access, AfterCount, Agrees, ap, append_assoc, arith, Bool, changes_tables, ChangesFlat, count_of, Create, Cut, Delete, End, Engine, Err, false, if◌then◌else◌, inl, inr, Insert, is_access, is_late, is_saved, Joined, KeeperFault, KeeperState, left_by, length, length-append, List, None, Ok, OnOk, Opens, Option, Outcome, Public, refl, Refusal, refusal_now, RefusedEarly, Result, RevState, run_script, RunStop, script, Seen, SinkFault, Skeleton, skeleton, Some, StashFull, Static, Stmt, StoreState, subst, sym, take, true, until_end, Update, Whole, whole_script, World, world_of, ℕ, ◌&&◌, ◌++◌, ◌+◌, ◌-◌, ◌∙◌, ◌≡◌, ◌≤◌, ◌⊎◌}
 use Rattle.std.proofs.lemmas.List.{length-take, take-append-le}
-use Rattle.std.specs.Prelude.{◌&&◌, OnOk, if◌then◌else◌}
 use Rattle.ob_base.specs.Accesses.{makes}
-use Rattle.ob_base.specs.declared.access.Access.{Access}
-use Rattle.ob_base.specs.declared.config.Public.{Public}
-use Rattle.ob_base.specs.declared.refusal.Refusal.{Refusal}
-use Rattle.ob_base.specs.declared.seen.End.{End}
-use Rattle.ob_base.specs.declared.seen.End.TheVariants.{Static, Whole, AfterCount, Joined, Cut}
-use Rattle.ob_base.specs.declared.seen.Seen.{Seen}
-use Rattle.ob_base.specs.declared.skeleton.Skeleton.{Skeleton}
 use Rattle.ob_mean.specs.Lawful.{Holds}
-use Rattle.ob_mean.specs.Replay.{is_access}
-use Rattle.ob_mean.specs.Verdict.{ended as seen_to, is_late}
-use Rattle.ob_reopen.specs.Keepers.{KeeperState}
+use Rattle.ob_mean.specs.Verdict.{ended as seen_to}
 use Rattle.ob_script.proofs.SavedParts.{run_is, whole_is}
-use Rattle.ob_script.specs.Saved.{ChangesFlat, left_by, run_next, run_script, whole_run}
-use Rattle.ob_script.specs.Script.{changes_tables, closing_behind, closing_then, is_saved, save_part, script, until_end, whole_script}
+use Rattle.ob_script.specs.Saved.{run_next, whole_run}
+use Rattle.ob_script.specs.Script.{closing_behind, closing_then, save_part}
 use Rattle.ob_script.specs.Tables.{tables_then}
 use Rattle.ob_script.specs.Trace.{next}
 use Rattle.ob_select.specs.Memory.{AtEmission, AtMake, AtResult}
-use Rattle.ob_select.specs.Opening.{Opens}
-use Rattle.ob_sql.specs.Skeleton.{skeleton}
-use Rattle.ob_sql.specs.declared.stmt.Stmt.{Stmt}
-use Rattle.ob_sql.specs.declared.stmt.Stmt.TheVariants.{Create, Insert, Update, Delete, Drop as DropTable, SelectRows as RowsStmt, SelectTotals as TotalsStmt}
+use Rattle.ob_sql.specs.declared.stmt.Stmt.TheVariants.{Drop as DropTable, SelectRows as RowsStmt, SelectTotals as TotalsStmt}
 use Rattle.ob_store.proofs.Steps.{since_later}
-use Rattle.ob_store.specs.State.{StoreState}
 use Rattle.ob_tables.proofs.LawfulLemmas.{ends_cut}
 use Rattle.ob_tables.proofs.TableLemmas.{tables_flat}
-use Rattle.ob_tables.specs.Agreeing.{Agrees, count_of, high_of, replaced_of, world_of}
+use Rattle.ob_tables.specs.Agreeing.{high_of, replaced_of}
 use Rattle.ob_tables.specs.Memory.{LacksMemory}
-use Rattle.ob_tables.specs.Running.{Continues, RefusedEarly, RunCause, result_end, stops_access}
-use Rattle.ob_tables.specs.declared.engine.Engine.{Engine}
-use Rattle.ob_tables.specs.declared.stop.RunStop.{RunStop}
-use Rattle.ob_tables.specs.declared.stop.RunStop.TheVariants.{KeeperFault, NoMemory, SinkFault, StashFull, StoreFault, Tampered}
-use Rattle.ob_vault.specs.State.{RevState, World}
-use Rattle.ob_verdict.specs.Outcomes.{refusal_now}
-use Rattle.ob_verdict.specs.declared.outcome.Outcome.{Outcome}
+use Rattle.ob_tables.specs.Running.{Continues, RunCause, result_end, stops_access}
+use Rattle.ob_tables.specs.declared.stop.RunStop.TheVariants.{NoMemory, StoreFault, Tampered}
 use Rattle.ob_exec.proofs.ChangedScripts.{changes_flat, unsaved_whole, whole_saved}
 use Rattle.ob_exec.proofs.Shares.{Share}
 use Rattle.ob_exec.specs.Ran.{CarriedOut, CountsKeeper, RanWhole, ServedCause, StopsWhere, WantsMemory, WasNotSaved, is_saved_behind}
 
 -- ---- causes and stops of the engine's share
 cause_plain : (p : Public) (s : Skeleton) (result : Result Outcome RunStop) (old new : World) → RunCause result old new → ServedCause p s result old new
-cause_plain p s (Ok outcome) old new cause = cause
-cause_plain p s (Err (Tampered q x)) old new cause = cause
-cause_plain p s (Err SinkFault) old new cause = cause
-cause_plain p s (Err NoMemory) old new cause = cause
 cause_plain p s (Err StoreFault) old new cause = (inl cause.0, cause.1)
-cause_plain p s (Err StashFull) old new cause = cause
 cause_plain p s (Err KeeperFault) old new cause = absurd cause
+cause_plain p s other old new cause = cause
 
 counts_plain : (result : Result Outcome RunStop) (old new : World) (keeper : KeeperState) → RunCause result old new → CountsKeeper result keeper keeper
-counts_plain (Ok outcome) old new keeper cause = refl
-counts_plain (Err (Tampered q x)) old new keeper cause = refl
-counts_plain (Err SinkFault) old new keeper cause = refl
-counts_plain (Err NoMemory) old new keeper cause = refl
-counts_plain (Err StoreFault) old new keeper cause = refl
-counts_plain (Err StashFull) old new keeper cause = refl
 counts_plain (Err KeeperFault) old new keeper cause = absurd cause
+counts_plain other old new keeper cause = refl
 
 stops_plain : (p : Public) (s : Skeleton) (result : Result Outcome RunStop) (old new : World) → RunCause result old new → (stops_access result ≡ true → is_access p s ≡ true) → StopsWhere p s result
-stops_plain p s (Ok outcome) old new cause indexed = tt
-stops_plain p s (Err (Tampered q x)) old new cause indexed = tt
-stops_plain p s (Err SinkFault) old new cause indexed = tt
-stops_plain p s (Err NoMemory) old new cause indexed = tt
 stops_plain p s (Err StoreFault) old new cause indexed = inl (indexed refl)
 stops_plain p s (Err StashFull) old new cause indexed = indexed refl
 stops_plain p s (Err KeeperFault) old new cause indexed = absurd cause
+stops_plain p s other old new cause indexed = tt
 
 settled_plain : {R : Type 0} (old new : Engine R) (result : Result Outcome RunStop) → replaced_of old ≡ None → replaced_of new ≡ replaced_of old → OnOk result (replaced_of new ≡ None)
 settled_plain old new (Ok outcome) settled same = same ∙ settled
@@ -158,11 +127,8 @@ module _ {R : Type 0} (state : R → RevState) (stmt : Stmt) (owed : List Stmt) 
         }
 
   closing_stays : (end : End) → is_saved p sk ≡ false → closing_then p sk end ≡ p.closing
-  closing_stays Static not = refl
   closing_stays Whole not = ap (λ (b : Bool). if b then Some (closing_behind p sk) else p.closing) not
-  closing_stays AfterCount not = refl
-  closing_stays Joined not = refl
-  closing_stays (Cut n) not = refl
+  closing_stays other not = refl
 
   none_saved : (b c : Bool) → c ≡ false → (b && c) ≡ false
   none_saved true c is = is

@@ -1,49 +1,23 @@
 -- A SELECT of the rows of a fresh region, which other accesses made and one more discards.
-use Rattle.std.proofs.Common.{◌≡◌, ◌⊎◌, inl, inr, ◌≤◌, ◌+◌, ◌-◌, ℕ, Bool, true, false, List, [], ◌∷◌, ◌++◌, length, Option, Some, None, Ok, Err, Result, refl, sym, ◌∙◌, ap, subst, arith, length-append, append-nil, append_assoc}
-use Rattle.std.specs.Prelude.{IsSome, IsTrue, nat_le}
+use Rattle.ob_exec.proofs.Words.{Access, answer_events, ap, append-nil, append_assoc, AreHeld, arith, Bool, cases_eq, count_end, count_part, counted_after, discard_at, done_of, End, EndsRows, Err, Event, extent_of, false, from, HaltsRows, HasHalted, header, held_empty, held_if, HoldsRows, HoldsSeen, Index, inl, inr, is_of_access, IsSome, IsTrue, IsUnfit, KeySet, Lasts, Later, Leads, LeavesNone, length, length-append, length-count_part, Lie, List, MayHold, nat_le, nat_tests, None, none_before, Ok, OpErr, Option, PassCut, places, Plan, Public, ReadsIn, refl, Result, rows_script, Seals, seals_join, SealsRows, Seen, Selected, Selection, selection_script, selection_seen, SelectsFrom, Slots, slots_of, Some, SourceToEnd, SourceToHalt, stated, StoreState, subst, sym, Tables, true, walk_end, Went, World, ℕ, [], ◌++◌, ◌+◌, ◌-◌, ◌∙◌, ◌∷◌, ◌≡◌, ◌≤◌, ◌⊎◌}
 use Rattle.std.specs.List.{list_all}
-use Rattle.std.proofs.lemmas.Bool.{cases_eq}
-use Rattle.std.proofs.lemmas.Bool.Decides.{nat_tests}
-use Rattle.ob_base.specs.declared.access.Access.{Access}
-use Rattle.ob_base.specs.declared.config.Plan.{Plan}
-use Rattle.ob_base.specs.declared.config.Public.{Public}
-use Rattle.ob_base.specs.declared.seen.Seen.{Seen}
-use Rattle.ob_base.specs.Accesses.{discard_at}
-use Rattle.ob_base.specs.Events.{Event, Leads}
-use Rattle.ob_emit.specs.Emitting.{header}
-use Rattle.ob_seal.specs.KeySet.{KeySet}
-use Rattle.ob_store.specs.State.{Lie, StoreState}
-use Rattle.ob_store.specs.Runs.{Later}
-use Rattle.ob_store.proofs.Steps.{none_before}
-use Rattle.ob_base.specs.declared.seen.End.{End}
-use Rattle.ob_row.specs.Slots.{Slots}
-use Rattle.ob_script.specs.Parts.{count_part}
-use Rattle.ob_script.specs.Script.{blocks_of, extent_of}
-use Rattle.ob_script.proofs.Lengths.{length-count_part}
+use Rattle.ob_script.specs.Script.{blocks_of}
 use Rattle.ob_exec.proofs.RowsLawful.{seen_as}
 use Rattle.ob_exec.proofs.RowsNothing.{part_late}
-use Rattle.ob_vault.specs.State.{Start, World}
-use Rattle.ob_vault.specs.Tied.{TagFits, IsUnfit, ReadsIn}
+use Rattle.ob_vault.specs.State.{Start}
+use Rattle.ob_vault.specs.Tied.{TagFits}
 use Rattle.ob_vault.proofs.WorldSteps.{calm_none, reads_on}
-use Rattle.ob_vault.specs.Calls.{Lasts, Seals, Went, one}
-use Rattle.ob_vault.proofs.Runs.{seals_join, went_join, went_wider}
-use Rattle.ob_flat.specs.declared.fault.OpErr.{OpErr}
+use Rattle.ob_vault.specs.Calls.{one}
+use Rattle.ob_vault.proofs.Runs.{went_join, went_wider}
 use Rattle.ob_flat.specs.declared.fault.OpErr.TheVariants as OpErrs
 use Rattle.ob_flat.specs.Discards.{Discards}
 use Rattle.ob_flat.specs.Flats.{Represents}
-use Rattle.ob_flat.specs.Passes.{PassCut, is_of_access}
 use Rattle.ob_flat.proofs.Runs.{pass_after, pass_more, pass_then, pass_wider}
-use Rattle.ob_mean.specs.Replay.{count_end, done_of, held_if, walk_end}
-use Rattle.ob_mean.specs.Verdict.{Tables}
 use Rattle.ob_sql.specs.declared.stmt.SelectRows.{SelectRows}
-use Rattle.ob_select.specs.declared.selecting.Selected.{Selected}
 use Rattle.ob_select.specs.declared.selecting.Selected.TheVariants.{Rows, Refused}
-use Rattle.ob_select.specs.Memory.{AtMake, HasCounted, HasHalted, is_reading}
-use Rattle.ob_select.specs.Selecting.{EmitsSelected, HoldsSeen, MayHold, SealsRows, Selection, SelectsFrom, SelectsToEnd, SelectsToHalt, answer_events, counted_after, from, places, region_of, selection_seen, selection_script, walked_after}
-use Rattle.ob_exec.specs.Sources.{EmitsRows, EndsRows, HaltsRows, HoldsRows, LacksRowMemory, LeavesNone, SourceToEnd, SourceToHalt, rows_script, rows_skeleton, slots_of, stated}
-use Rattle.ob_tables.specs.Telling.{AreHeld}
-use Rattle.ob_oram.specs.declared.index.Index.{Index}
-use Rattle.ob_select.proofs.SelectHeld.{held_empty}
+use Rattle.ob_select.specs.Memory.{AtMake, HasCounted, is_reading}
+use Rattle.ob_select.specs.Selecting.{EmitsSelected, SelectsToEnd, SelectsToHalt, region_of, walked_after}
+use Rattle.ob_exec.specs.Sources.{EmitsRows, LacksRowMemory, rows_skeleton}
 use Rattle.ob_exec.proofs.RowsSeconded.{Seconded, alone, followed, rows_seconded}
 use Rattle.ob_exec.proofs.RowsReach.{counted_some}
 use Rattle.ob_exec.proofs.RowsStated.{ends_stated, may_stated}

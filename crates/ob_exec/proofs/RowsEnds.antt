@@ -1,36 +1,20 @@
 -- A SELECT of rows that came to its end, or was refused for its rows.
-use Rattle.std.proofs.Common.{◌≡◌, inl, ℕ, Bool, true, false, List, [], ◌∷◌, ◌++◌, None, Ok, refl, sym, ◌∙◌, ap, subst, arith}
-use Rattle.std.proofs.lemmas.List.{length-map}
-use Rattle.ob_base.specs.declared.refusal.Refusal.{Refusal}
-use Rattle.ob_base.specs.declared.seen.Seen.{Seen}
-use Rattle.ob_base.specs.Events.{Event, Head, Row, Close, Leads, row_events}
-use Rattle.ob_base.specs.Refusals.{is_store_fault}
-use Rattle.ob_room.specs.RoomState.{RoomState}
-use Rattle.ob_store.specs.State.{StoreState}
-use Rattle.ob_vault.specs.State.{RevState, World}
-use Rattle.ob_vault.specs.declared.vault.Vault.{Vault}
-use Rattle.ob_vault.specs.Places.{at}
-use Rattle.ob_emit.specs.Emitting.{header}
+use Rattle.ob_exec.proofs.Words.{Agrees, answer_events, answer_labels, ap, arith, at, Bool, by_fault, Close, closing, count_of, Draws, Emitted, EndsRows, Engine, Event, false, Head, header, inl, is_fault, is_store_fault, Leads, length-map, List, None, of_other, Ok, places, Prints, ReadsTrue, refl, Refusal, refusal_now, RevState, RoomState, row_events, Seen, Selected, selected_outcome, selection, selection_answer, Serves, slots_of, StoreState, subst, sym, Tables, true, UsesRoomFor, Vault, verdict, World, world_of, ℕ, [], ◌++◌, ◌∙◌, ◌∷◌, ◌≡◌}
+use Rattle.ob_base.specs.Events.{Row}
 use Rattle.ob_sql.specs.declared.stmt.SelectRows.{SelectRows}
 use Rattle.ob_sql.specs.declared.stmt.Stmt.TheVariants.{SelectRows as RowsStmt}
-use Rattle.ob_mean.specs.Prints.{Prints}
-use Rattle.ob_mean.specs.Verdict.{Draws, Tables, rows_refusal, verdict}
+use Rattle.ob_mean.specs.Verdict.{rows_refusal}
 use Rattle.ob_tables.proofs.PlainLemmas.{none_full}
-use Rattle.ob_tables.specs.declared.engine.Engine.{Engine}
-use Rattle.ob_select.specs.declared.selecting.Selected.{Selected}
 use Rattle.ob_select.specs.declared.selecting.Selected.TheVariants.{Rows, Refused}
-use Rattle.ob_tables.specs.Agreeing.{Agrees, world_of, count_of}
-use Rattle.ob_tables.specs.Running.{is_fault}
-use Rattle.ob_verdict.specs.Outcomes.{refusal_now, by_fault, IsBegunAnswer}
-use Rattle.ob_select.specs.Selecting.{answer_events, selection_answer, emitted_unless, places, shown_rows}
-use Rattle.ob_tables.specs.Serving.{Answered, Serves}
-use Rattle.ob_exec.specs.Sources.{EndsRows, IsFew, UsesRoomFor, closing, selected_outcome, selection, slots_of}
-use Rattle.ob_tables.specs.Telling.{Emitted, ReadsTrue, Represents, Told, answer_labels}
+use Rattle.ob_verdict.specs.Outcomes.{IsBegunAnswer}
+use Rattle.ob_select.specs.Selecting.{emitted_unless, shown_rows}
+use Rattle.ob_tables.specs.Serving.{Answered}
+use Rattle.ob_exec.specs.Sources.{IsFew}
+use Rattle.ob_tables.specs.Telling.{Represents, Told}
 use Rattle.ob_exec.proofs.RowsLawful.{ended_late, ended_well, lawful_ended}
 use Rattle.ob_exec.proofs.RowsMeaning.{rows_outcome, rows_prints, rows_seen, rows_settle}
 use Rattle.ob_exec.proofs.RowsRun.{rows_after, rows_ran}
 use Rattle.ob_exec.proofs.RowsStops.{IsSource, early, early_none, flat, headed, rows_begun, rows_of, still_held, to_end}
-use Rattle.ob_tables.proofs.RunLemmas.{of_other}
 use Rattle.ob_exec.proofs.RowsReach.{as_rows, as_refused}
 use Rattle.ob_verdict.proofs.RowEvents.{are_rows}
 

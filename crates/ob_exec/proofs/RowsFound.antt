@@ -1,27 +1,11 @@
 -- What is known of the source of a SELECT of rows, where it is not refused before any access.
-use Rattle.std.proofs.Common.{◌≡◌, false, List, None, refl, sym, ◌∙◌, ap, subst}
-use Rattle.ob_base.specs.declared.schema.Heading.{Heading}
-use Rattle.ob_base.specs.declared.skeleton.Source.{Source}
+use Rattle.ob_exec.proofs.Words.{Agrees, ap, AreInPlace, count_of, database, Engine, false, Heading, headings, headings_of, is_access, is_late, limits_of, List, None, refl, refusal_now, RevState, rows, Same, skeleton, some_buffered, Source, source_rows, source_slots, StoreState, subst, sym, Tables, ◌∙◌, ◌≡◌}
 use Rattle.ob_base.specs.declared.skeleton.Source.TheVariants.{Table as OneTable, Join}
-use Rattle.ob_base.specs.Stored.{headings, headings_of}
-use Rattle.ob_row.specs.Bags.{Same}
-use Rattle.ob_row.specs.Slots.{rows}
-use Rattle.ob_store.specs.State.{StoreState}
-use Rattle.ob_vault.specs.State.{RevState}
-use Rattle.ob_mean.specs.Replay.{is_access}
-use Rattle.ob_sql.specs.Skeleton.{skeleton}
-use Rattle.ob_mean.specs.Refusals.{joins_off_key_at, limits_of}
-use Rattle.ob_mean.specs.Step.{source_rows}
-use Rattle.ob_mean.specs.Verdict.{Tables, database, is_late, source_slots}
+use Rattle.ob_mean.specs.Refusals.{joins_off_key_at}
 use Rattle.ob_mean.proofs.EarlyLemmas.{Allowed}
 use Rattle.ob_sql.specs.declared.stmt.SelectRows.{SelectRows}
 use Rattle.ob_sql.specs.declared.stmt.Stmt.TheVariants.{SelectRows as RowsStmt}
-use Rattle.ob_verdict.specs.Laws.{AreInPlace}
-use Rattle.ob_tables.specs.declared.engine.Engine.{Engine}
-use Rattle.ob_tables.specs.Agreeing.{Agrees, count_of}
-use Rattle.ob_verdict.specs.Outcomes.{refusal_now}
 use Rattle.ob_exec.proofs.RowsStops.{IsSource}
-use Rattle.ob_select.proofs.ResultParts.{some_buffered}
 use Rattle.ob_exec.proofs.RowsSource.{join_same, table_same}
 use Rattle.ob_tables.proofs.SourceColumns.{fits, labelled_is}
 

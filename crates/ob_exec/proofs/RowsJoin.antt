@@ -1,73 +1,39 @@
 -- What a SELECT of the rows of a join asks.
-use Rattle.std.proofs.Common.{◌≡◌, ◌≤◌, ◌<◌, ◌+◌, ◌*◌, ℕ, List, [], ◌++◌, length, Option, Some, None, Result, refl, sym, ◌∙◌, ap, subst, arith, length-append, append-nil, append_assoc, false, ◌∷◌}
-use Rattle.std.specs.Prelude.{IsSome, slice_get}
-use Rattle.std.specs.Int.{div_ceil}
-use Rattle.std.specs.Option.{option_map_or}
+use Rattle.ob_exec.proofs.Words.{Access, Agrees, allowed, ap, append-nil, append_assoc, arith, at, blocks_few, blocks_for, buffered_blocks, ChangesNothing, Columns, Condition, count_end, count_of, count_part, counted_after, discard_at, div_ceil, early_refusal, Engine, extent_of, false, flat_of, from, Heading, heading_at, heading_found, headings_of, is_access, is_late, IsFlat, IsFound, IsSized, IsSome, left_place, length, length-append, length-count_part, limits_of, List, None, OpErr, Option, option_map_or, printed_places, Public, refl, refusal_now, region_below, Result, RevState, rows_script, Seen, Selection, selection, selection_script, slice_get, Slots, Some, some_buffered, Source, source_tables, stated, Stored, StoreState, subst, sym, walk_end, went_rests, where_at, Whole, width, World, world_of, ℕ, [], ◌*◌, ◌++◌, ◌+◌, ◌<◌, ◌∙◌, ◌∷◌, ◌≡◌, ◌≤◌}
 use Rattle.ob_base.specs.declared.schema.Shape.TheVariants.{Flat as FlatShape}
-use Rattle.ob_base.specs.declared.access.Access.{Access}
-use Rattle.ob_base.specs.declared.config.Public.{Public}
-use Rattle.ob_base.specs.declared.schema.Heading.{Heading}
 use Rattle.ob_base.specs.declared.schema.Table.{Table}
-use Rattle.ob_base.specs.declared.seen.Seen.{Seen}
-use Rattle.ob_base.specs.declared.seen.End.TheVariants.{Whole}
 use Rattle.ob_base.specs.declared.skeleton.ColumnName.{ColumnName}
 use Rattle.ob_base.specs.declared.skeleton.Skeleton.TheVariants.{Rows as RowsSkeleton}
-use Rattle.ob_base.specs.declared.skeleton.Source.{Source}
 use Rattle.ob_base.specs.declared.skeleton.Source.TheVariants.{Join}
-use Rattle.ob_base.specs.Accesses.{discard_at}
 use Rattle.ob_base.specs.Joins.{joined_blocks, joined_slots}
-use Rattle.ob_base.specs.Limits.{buffered_blocks}
-use Rattle.ob_base.specs.Numbers.{blocks_for}
-use Rattle.ob_base.specs.Schemas.{Columns, width}
-use Rattle.ob_base.specs.Stored.{Stored, headings_of, heading_at}
-use Rattle.ob_script.specs.Parts.{count_part}
-use Rattle.ob_script.specs.Script.{after_count, behind_count, blocks_of, extent_of, join_script, padded_part, result_part, select_part, source_script}
-use Rattle.ob_script.proofs.Lengths.{length-count_part}
-use Rattle.ob_store.specs.State.{StoreState}
-use Rattle.ob_vault.specs.State.{RevState, World}
-use Rattle.ob_flat.proofs.Tables.{blocks_few}
+use Rattle.ob_script.specs.Script.{after_count, behind_count, blocks_of, join_script, padded_part, result_part, select_part, source_script}
 use Rattle.ob_join.proofs.Lengths.{product_least}
 use Rattle.ob_join.specs.Join.{Join as Pairing, Joins, MayJoin, TellsSlots, fill_length, join_in, join_script as pass_script, table}
 use Rattle.ob_mean.specs.Lawful.{counted_slots}
-use Rattle.ob_names.specs.Names.{source_columns, left_place, right_place}
-use Rattle.ob_mean.specs.Conditions.{where_at}
-use Rattle.ob_mean.specs.Step.{printed_places}
-use Rattle.ob_mean.specs.Replay.{count_end, ending_len, has_index, is_access, walk_end}
+use Rattle.ob_names.specs.Names.{source_columns, right_place}
+use Rattle.ob_mean.specs.Replay.{ending_len, has_index}
 use Rattle.ob_mean.specs.Verdict.{ended as seen_to}
-use Rattle.ob_mean.specs.Refusals.{early_refusal, limits_of, source_tables}
-use Rattle.ob_store.specs.Calls.{ChangesNothing}
-use Rattle.ob_vault.specs.Places.{at}
-use Rattle.ob_vault.proofs.WordLemmas.{ready_rests, went_rests}
+use Rattle.ob_vault.proofs.WordLemmas.{ready_rests}
 use Rattle.ob_vault.specs.Words.{MayStart}
-use Rattle.ob_mean.proofs.EarlyLemmas.{allowed}
-use Rattle.ob_flat.specs.Flats.{IsFlat, IsSized, Represents}
-use Rattle.ob_flat.specs.declared.fault.OpErr.{OpErr}
+use Rattle.ob_flat.specs.Flats.{Represents}
 use Rattle.ob_flat.proofs.Resting.{represents_rests}
-use Rattle.ob_row.specs.Condition.{Condition}
 use Rattle.ob_row.specs.Results.{joined}
-use Rattle.ob_row.specs.Slots.{Slots}
-use Rattle.ob_mean.specs.Verdict.{is_late}
 use Rattle.ob_blocks.specs.Idle.{IsIdle}
 use Rattle.ob_flat.specs.declared.flat.Flat.{Flat}
 use Rattle.ob_verdict.specs.Accepted.{JoinFits}
 use Rattle.ob_verdict.proofs.AcceptedProof.{joins_fit}
-use Rattle.ob_verdict.specs.Outcomes.{refusal_now}
 use Rattle.ob_sql.specs.declared.stmt.SelectRows.{SelectRows}
 use Rattle.ob_sql.specs.declared.stmt.Stmt.TheVariants.{SelectRows as RowsStmt}
-use Rattle.ob_tables.specs.declared.engine.Engine.{Engine}
-use Rattle.ob_tables.specs.Agreeing.{Agrees, world_of, count_of}
-use Rattle.ob_tables.specs.Engines.{IsFound, flat_of}
-use Rattle.ob_select.specs.Selecting.{Selection, counted_after, from, region_of, selection_script, walked_after}
-use Rattle.ob_exec.specs.Sources.{rows_script, rows_skeleton, selection, stated}
-use Rattle.ob_tables.proofs.FoundLemmas.{heading_found, shape_found}
+use Rattle.ob_select.specs.Selecting.{region_of, walked_after}
+use Rattle.ob_exec.specs.Sources.{rows_skeleton}
+use Rattle.ob_tables.proofs.FoundLemmas.{shape_found}
 use Rattle.ob_verdict.proofs.NamesFlatProof.{names_flat}
 use Rattle.std.specs.List.{All}
 use Rattle.std.proofs.lemmas.List.Elements.{All-head, All-tail}
 use Rattle.ob_exec.proofs.RowsBehind.{ending_for}
 use Rattle.ob_select.proofs.SelectLength.{select_length}
 use Rattle.ob_exec.proofs.RowsTable.{not_late, some_of, stated_is}
-use Rattle.ob_tables.proofs.TableLemmas.{flat_kept, region_below, stored_found}
-use Rattle.ob_select.proofs.ResultParts.{some_buffered}
+use Rattle.ob_tables.proofs.TableLemmas.{flat_kept, stored_found}
 
 -- what follows a selection stands behind it
 behind_parts : (count first next ending : List Access) → count ++ (first ++ (next ++ ending)) ≡ (count ++ (first ++ (next ++ []))) ++ ending

@@ -1,41 +1,16 @@
 -- A SELECT of the rows of a join, once the joined region is gone.
-use Rattle.std.proofs.Common.{◌≡◌, ◌+◌, ◌*◌, ℕ, Bool, List, [], ◌++◌, length, Option, None, Ok, Err, Result, refl, sym, ◌∙◌, ap, subst, arith}
-use Rattle.std.specs.Prelude.{IsTrue}
-use Rattle.std.specs.Option.{option_map_or}
-use Rattle.ob_base.specs.declared.schema.Heading.{Heading}
-use Rattle.ob_base.specs.declared.seen.Seen.{Seen}
-use Rattle.ob_base.specs.declared.skeleton.Source.{Source}
-use Rattle.ob_base.specs.Events.{Event}
-use Rattle.ob_base.specs.Limits.{buffered_blocks}
-use Rattle.ob_base.specs.Numbers.{blocks_for}
-use Rattle.ob_base.specs.Schemas.{width}
-use Rattle.ob_base.specs.Stored.{Stored, headings, heading_at, stored_at}
+use Rattle.ob_exec.proofs.Words.{ap, AreHeld, arith, at, blocks_for, Bool, buffered_blocks, EndsRows, Engine, Err, Event, from, HaltsRows, Heading, heading_at, headings, Held, held_at, Index, IsTrue, later_rests, left_place, length, List, None, Ok, OpErr, Option, option_map_or, refl, Result, RevState, seals_join, seals_rests, SealsRows, Seen, Selected, SelectsFrom, Slots, slots_of, Source, source_slots, Stored, stored_at, StoreState, subst, sym, Tables, Went, went_rests, width, World, world_of, ℕ, [], ◌*◌, ◌++◌, ◌+◌, ◌∙◌, ◌≡◌}
 use Rattle.ob_script.proofs.Makes.{makes-join_part}
 use Rattle.ob_row.specs.Results.{joined}
-use Rattle.ob_row.specs.Slots.{Slots}
-use Rattle.ob_store.specs.State.{StoreState}
-use Rattle.ob_store.proofs.Steps.{later_rests}
-use Rattle.ob_vault.specs.State.{RevState, World}
-use Rattle.ob_vault.specs.Calls.{Went, one}
+use Rattle.ob_vault.specs.Calls.{one}
 use Rattle.ob_vault.specs.VaultCalls.{Forgets}
-use Rattle.ob_vault.specs.Places.{at}
-use Rattle.ob_vault.proofs.Runs.{seals_join, went_join, went_wider}
-use Rattle.ob_vault.proofs.WordLemmas.{seals_rests, went_rests}
-use Rattle.ob_flat.specs.declared.fault.OpErr.{OpErr}
+use Rattle.ob_vault.proofs.Runs.{went_join, went_wider}
 use Rattle.ob_flat.specs.declared.flat.Flat.{Flat}
 use Rattle.ob_flat.specs.Discards.{Discards}
 use Rattle.ob_flat.specs.Flats.{Accepts, Represents}
-use Rattle.ob_names.specs.Names.{left_place, right_place}
-use Rattle.ob_mean.specs.Verdict.{Held, Tables, source_slots}
+use Rattle.ob_names.specs.Names.{right_place}
 use Rattle.ob_sql.specs.declared.stmt.SelectRows.{SelectRows}
-use Rattle.ob_tables.specs.declared.engine.Engine.{Engine}
-use Rattle.ob_select.specs.declared.selecting.Selected.{Selected}
-use Rattle.ob_tables.specs.Agreeing.{world_of}
-use Rattle.ob_select.specs.Selecting.{SealsRows, SelectsFrom, from}
-use Rattle.ob_exec.specs.Sources.{EndsRows, HaltsRows, slots_of}
-use Rattle.ob_tables.specs.Telling.{AreHeld}
-use Rattle.ob_oram.specs.declared.index.Index.{Index}
-use Rattle.ob_tables.proofs.HeldLemmas.{held_at, held_headings}
+use Rattle.ob_tables.proofs.HeldLemmas.{held_headings}
 use Rattle.ob_exec.proofs.RowsBehind.{behind_ends, behind_halts}
 use Rattle.ob_exec.proofs.RowsJoin.{IsPaired, JoinOf, found_a, found_b, held_left, held_right, join_asks, join_count, join_least, join_walk, joins, q, table_is, flat_a, flat_b}
 use Rattle.ob_tables.proofs.RunLemmas.{next_after}

@@ -1,63 +1,34 @@
 -- A SELECT of the rows of a join, until the region of its rows is made.
-use Rattle.std.proofs.Common.{◌≡◌, ◌⊎◌, inl, inr, ◌≤◌, ◌+◌, ◌*◌, ℕ, Bool, List, [], ◌∷◌, ◌++◌, length, Ok, Err, None, refl, sym, ◌∙◌, ap, subst, arith, length-append}
-use Rattle.std.specs.Prelude.{IsTrue}
-use Rattle.std.specs.Int.{div_ceil}
-use Rattle.std.proofs.lemmas.Bool.{cases_eq}
-use Rattle.ob_base.specs.declared.access.Access.{Access}
+use Rattle.ob_exec.proofs.Words.{Access, allowed, ap, arith, at, blocks_few, blocks_for, Bool, buffered_blocks, cases_eq, count_of, counted_after, discard_at, div_ceil, Engine, Err, Event, from, headings_of, held_at, inl, inr, is_late, IsFlat, IsSized, IsTrue, later_rests, LeavesNone, left_place, length, length-append, limits_of, List, MaySelect, None, Ok, OpErr, PassCut, refl, rests_refl, RevState, RoomState, seals_join, seals_rests, SealsRows, Seen, Selected, Selection, selection_script, SinkCause, some_buffered, SourceToEnd, StoreState, subst, sym, went_rests, Whole, width, World, world_of, ℕ, [], ◌*◌, ◌++◌, ◌+◌, ◌∙◌, ◌∷◌, ◌≡◌, ◌≤◌, ◌⊎◌}
 use Rattle.ob_base.specs.declared.access.Access.TheVariants.{Make}
-use Rattle.ob_base.specs.declared.seen.Seen.{Seen}
-use Rattle.ob_base.specs.declared.seen.End.TheVariants.{Whole}
-use Rattle.ob_base.specs.Accesses.{discard_at}
-use Rattle.ob_base.specs.Events.{Event}
 use Rattle.ob_base.specs.Joins.{joined_blocks, joined_slots}
-use Rattle.ob_base.specs.Limits.{buffered_blocks}
-use Rattle.ob_base.specs.Numbers.{blocks_for}
-use Rattle.ob_base.specs.Schemas.{width}
-use Rattle.ob_base.specs.Stored.{headings_of}
-use Rattle.ob_room.specs.RoomState.{RoomState}
 use Rattle.ob_script.specs.Parts.{join_part}
 use Rattle.ob_script.proofs.Lengths.{length-pairs}
-use Rattle.ob_store.specs.State.{StoreState}
 use Rattle.ob_store.specs.Runs.{Did}
-use Rattle.ob_store.proofs.Steps.{later_rests}
-use Rattle.ob_vault.specs.State.{RevState, World, earlier}
+use Rattle.ob_vault.specs.State.{earlier}
 use Rattle.ob_vault.specs.Calls.{one}
-use Rattle.ob_vault.specs.Places.{at}
-use Rattle.ob_vault.proofs.Runs.{seals_join}
-use Rattle.ob_vault.proofs.WordLemmas.{seals_rests, went_rests}
-use Rattle.ob_flat.specs.declared.fault.OpErr.{OpErr}
 use Rattle.ob_flat.specs.declared.fault.OpErr.TheVariants as OpErrs
 use Rattle.ob_flat.specs.declared.flat.Flat.{Flat}
-use Rattle.ob_flat.specs.Flats.{Accepts, IsFlat, IsSized}
-use Rattle.ob_flat.specs.Passes.{PassCut, SinkCause}
+use Rattle.ob_flat.specs.Flats.{Accepts}
 use Rattle.ob_flat.proofs.Runs.{pass_after, pass_wider}
-use Rattle.ob_flat.proofs.Tables.{blocks_few}
 use Rattle.ob_emit.specs.Emitting.{AreColumns}
 use Rattle.ob_join.specs.Join.{blocks, fill_script}
 use Rattle.ob_join.proofs.Lengths.{product_least}
 use Rattle.ob_join.proofs.Results.{whole_product}
-use Rattle.ob_names.specs.Names.{left_place, right_place}
-use Rattle.ob_mean.specs.Refusals.{limits_of}
-use Rattle.ob_mean.specs.Verdict.{is_late, ended as seen_to}
-use Rattle.ob_mean.proofs.EarlyLemmas.{allowed}
+use Rattle.ob_names.specs.Names.{right_place}
+use Rattle.ob_mean.specs.Verdict.{ended as seen_to}
 use Rattle.ob_sql.specs.declared.stmt.SelectRows.{SelectRows}
 use Rattle.ob_sql.specs.declared.stmt.Stmt.TheVariants.{SelectRows as RowsStmt}
 use Rattle.ob_verdict.proofs.AcceptedProof.{places_fit}
-use Rattle.ob_tables.specs.declared.engine.Engine.{Engine}
-use Rattle.ob_select.specs.declared.selecting.Selected.{Selected}
-use Rattle.ob_tables.specs.Agreeing.{world_of, count_of}
-use Rattle.ob_select.specs.Selecting.{MaySelect, SealsRows, Selection, counted_after, from, padded_after, selection_script}
-use Rattle.ob_exec.specs.Sources.{LeavesNone, SelectsRows, SourceToEnd}
-use Rattle.ob_tables.proofs.HeldLemmas.{held_at}
+use Rattle.ob_select.specs.Selecting.{padded_after}
+use Rattle.ob_exec.specs.Sources.{SelectsRows}
 use Rattle.ob_exec.proofs.RowsBehind.{ending_for}
 use Rattle.ob_exec.proofs.RowsJoin.{IsPaired, JoinOf, asked_for, both_slots, held_left, held_right, join_asks, join_count, join_least, join_may, joins, pass, q, slots_few, table_is, flat_a, flat_b, join_plain}
 use Rattle.ob_exec.proofs.RowsNothing.{leaves_ready}
 use Rattle.ob_exec.proofs.RowsPairs.{pairs_halt}
 use Rattle.ob_exec.proofs.RowsTable.{not_late}
 use Rattle.ob_tables.proofs.SourceColumns.{listed_few}
-use Rattle.ob_tables.proofs.RunLemmas.{rests_refl}
 use Rattle.ob_select.proofs.RoomLemmas.{free_after}
-use Rattle.ob_select.proofs.ResultParts.{some_buffered}
 
 -- what is left of the room of a join once it was made
 still_spare : (lefts pairs padded n spare now x : ℕ) → n ≡ lefts + 3 * pairs + 2 → n + padded ≤ spare → spare ≤ now + x → x ≡ 1 + (2 * pairs + lefts) → pairs + padded + 1 ≤ now
@@ -68,10 +39,8 @@ twice_each chunks rights = grind arith
 
 -- a join never fails for its emitter
 no_sink : (e : OpErr) (n : ℕ) → (e ≡ OpErrs.Sink → ⊥) → SinkCause {T = Selected} (Err e) n n
-no_sink OpErrs.Failed n never = refl
-no_sink (OpErrs.Tampered q x) n never = refl
 no_sink OpErrs.Sink n never = absurd (never refl)
-no_sink OpErrs.NoMemory n never = refl
+no_sink other n never = refl
 
 module _ {R : Type 0} {state : R → RevState} {old : Engine R} {s : StoreState} {select : SelectRows} (y : JoinOf state old s select) where
   -- ---- what a selection of the joined rows asks

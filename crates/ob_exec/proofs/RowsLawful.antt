@@ -1,29 +1,14 @@
 -- What is seen of a SELECT of rows is lawful, whatever the store does.
-use Rattle.std.proofs.Common.{◌≡◌, ◌⊎◌, inl, inr, ◌≤◌, ◌+◌, ◌-◌, ℕ, false, List, length, Option, Some, None, refl, sym, ap, subst, arith}
-use Rattle.std.specs.Prelude.{IsSome, not}
-use Rattle.ob_base.specs.declared.config.Plan.{Plan}
-use Rattle.ob_base.specs.declared.config.Plan.TheVariants.{Small, Hash}
-use Rattle.ob_base.specs.declared.config.Public.{Public}
-use Rattle.ob_base.specs.declared.refusal.Refusal.{Refusal}
-use Rattle.ob_base.specs.declared.refusal.Refusal.TheVariants.{NotConsecutive, Overflow, PadPassed}
-use Rattle.ob_base.specs.declared.access.Access.{Access}
-use Rattle.ob_base.specs.declared.seen.Seen.{Seen}
-use Rattle.ob_base.specs.declared.seen.End.{End}
-use Rattle.ob_base.specs.declared.seen.End.TheVariants.{Static, Whole, AfterCount, Cut}
-use Rattle.ob_script.specs.Script.{until_end}
+use Rattle.ob_exec.proofs.Words.{Access, AfterCount, ap, arith, Cut, End, false, Hash, inl, inr, is_access, is_fault, IsSome, Lawful, length, List, MayHold, None, not, Option, outcome_end, PadPassed, Plan, Public, refl, Refusal, refusal_now, rows_script, same_script, Seen, Selected, selected_outcome, Selection, selection, Small, Some, Static, Stmt, subst, sym, until_end, Whole, ℕ, ◌+◌, ◌-◌, ◌≡◌, ◌≤◌, ◌⊎◌}
+use Rattle.ob_base.specs.declared.refusal.Refusal.TheVariants.{NotConsecutive, Overflow}
 use Rattle.ob_sql.specs.declared.stmt.SelectRows.{SelectRows}
-use Rattle.ob_sql.specs.declared.stmt.Stmt.{Stmt}
 use Rattle.ob_sql.specs.declared.stmt.Stmt.TheVariants.{SelectRows as RowsStmt}
-use Rattle.ob_mean.specs.Lawful.{Lawful, Holds, EndsUncounted, EndsUnplanned as Unplanned, EndsFrom, CutUpTo}
-use Rattle.ob_select.specs.declared.selecting.Selected.{Selected}
+use Rattle.ob_mean.specs.Lawful.{Holds, EndsUncounted, EndsUnplanned as Unplanned, EndsFrom, CutUpTo}
 use Rattle.ob_select.specs.declared.selecting.Selected.TheVariants.{Rows, Refused}
-use Rattle.ob_tables.specs.Running.{is_fault, outcome_end}
-use Rattle.ob_verdict.specs.Outcomes.{refusal_now}
-use Rattle.ob_select.specs.Selecting.{Selection, MayHold, EndsSelected, EndsCounted, EndsPadded}
-use Rattle.ob_mean.specs.Replay.{ending_len, is_access}
+use Rattle.ob_select.specs.Selecting.{EndsSelected, EndsCounted, EndsPadded}
+use Rattle.ob_mean.specs.Replay.{ending_len}
 use Rattle.ob_tables.proofs.LawfulLemmas.{leaf_none}
-use Rattle.ob_verdict.proofs.LawfulProof.{same_script}
-use Rattle.ob_exec.specs.Sources.{selection, rows_script, rows_skeleton, ReachesRows, selected_outcome}
+use Rattle.ob_exec.specs.Sources.{rows_skeleton, ReachesRows}
 
 -- ---- how it ends
 whole_padded : (q : Selection) (seen : Seen) → EndsPadded q seen → seen.end ≡ Whole

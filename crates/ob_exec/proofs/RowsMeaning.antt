@@ -1,46 +1,32 @@
 -- What a SELECT of rows means for the slots of its source.
-use Rattle.std.proofs.Common.{◌≡◌, ◌≤◌, ◌+◌, ◌*◌, ℕ, suc, Bool, true, false, cond, List, [], ◌∷◌, ◌++◌, map, length, Option, Some, None, refl, sym, ◌∙◌, ap, subst, arith}
+use Rattle.ob_exec.proofs.Words.{accessed, Answer, answer_events, answer_labels, answered, ap, AreInPlace, arith, Bool, Close, closing, database, Draws, early_refusal, Event, false, Head, header, Heading, headings, headings_of, is_late, labels_of, length, length-map, limits_of, List, map, None, Option, Partly, places, printed_places, Prints, Public, refl, Refusal, row_events, rows, Same, Seen, select_columns, selected_outcome, Selection, selection, selection_answer, selection_seen, Shown, Slots, slots_of, Some, some_buffered, source_rows, subst, suc, sym, Tables, true, Unfinished, verdict, ℕ, [], ◌*◌, ◌++◌, ◌+◌, ◌∙◌, ◌∷◌, ◌≡◌, ◌≤◌}
+use Rattle.std.proofs.Common.{cond}
 use Rattle.std.specs.Prelude.{filter}
-use Rattle.std.proofs.lemmas.List.{length-map}
-use Rattle.ob_base.specs.declared.config.Public.{Public}
-use Rattle.ob_base.specs.declared.refusal.Refusal.{Refusal}
-use Rattle.ob_base.specs.declared.schema.Heading.{Heading}
-use Rattle.ob_base.specs.declared.seen.Seen.{Seen}
-use Rattle.ob_base.specs.declared.shown.Shown.{Shown}
-use Rattle.ob_base.specs.Events.{Event, Head, Close, row_events}
 use Rattle.ob_base.specs.Lists.{places_from}
 use Rattle.ob_base.specs.Plans.{IsPadded}
-use Rattle.ob_base.specs.Stored.{headings, headings_of}
-use Rattle.ob_row.specs.Bags.{Same}
 use Rattle.ob_row.specs.Rows.{Row}
-use Rattle.ob_row.specs.Slots.{Slots, rows, selected, is_selected}
+use Rattle.ob_row.specs.Slots.{selected, is_selected}
 use Rattle.ob_row.specs.Totals.{printed}
 use Rattle.ob_row.specs.Truth.{is_true}
 use Rattle.ob_row.proofs.BagLemmas.{Same-sym, Same-map, Same-filter}
-use Rattle.ob_emit.specs.Emitting.{header, labels_of}
 use Rattle.ob_sql.specs.declared.stmt.SelectRows.{SelectRows}
 use Rattle.ob_sql.specs.declared.stmt.Stmt.TheVariants.{SelectRows as RowsStmt}
-use Rattle.ob_mean.specs.declared.answer.Answer.{Answer}
 use Rattle.ob_mean.specs.declared.answer.Answer.TheVariants as A
-use Rattle.ob_mean.specs.Prints.{Prints, Unfinished, Begun}
-use Rattle.ob_mean.specs.Refusals.{early_refusal, limits_of}
+use Rattle.ob_mean.specs.Prints.{Begun}
 use Rattle.ob_mean.specs.Settle.{settle}
-use Rattle.ob_mean.specs.Step.{source_rows, selected_rows, rows_answer, select_columns, select_condition, printed_places, answered}
-use Rattle.ob_mean.specs.Verdict.{accessed, Draws, Tables, database, is_late, refusal, verdict, seen, seen_rows, selected_places, rows_refusal}
+use Rattle.ob_mean.specs.Step.{selected_rows, rows_answer, select_condition}
+use Rattle.ob_mean.specs.Verdict.{refusal, seen, seen_rows, selected_places, rows_refusal}
 use Rattle.ob_tables.proofs.PlainLemmas.{last_is, settle_is}
 use Rattle.ob_mean.proofs.VerdictLemmas.{headings-database, refused_late, seen_flat}
-use Rattle.ob_verdict.specs.Laws.{AreInPlace, printed_rows, selected_result}
+use Rattle.ob_verdict.specs.Laws.{printed_rows, selected_result}
 use Rattle.ob_verdict.proofs.AnswerProof.{prints_answer}
 use Rattle.ob_verdict.proofs.SeenProof.{started-unread}
 use Rattle.ob_verdict.specs.declared.outcome.Outcome.TheVariants.{Rows as RowsOut}
 use Rattle.ob_select.specs.declared.selecting.Selected.TheVariants.{Rows}
-use Rattle.ob_select.specs.Selecting.{Selection, places, selection_answer, answer_events, emitted_unless, result_of, selection_seen, selected_as, shown_rows, shown_where}
-use Rattle.ob_exec.specs.Sources.{closing, selected_outcome, selection, slots_of}
-use Rattle.ob_tables.specs.Telling.{answer_labels}
-use Rattle.ob_verdict.specs.Outcomes.{outcome_of, Partly}
+use Rattle.ob_select.specs.Selecting.{emitted_unless, result_of, selected_as, shown_rows, shown_where}
+use Rattle.ob_verdict.specs.Outcomes.{outcome_of}
 use Rattle.ob_select.proofs.ResultRows.{length-bag, length-chosen}
 use Rattle.ob_select.proofs.UntilLemmas.{nothing}
-use Rattle.ob_select.proofs.ResultParts.{some_buffered}
 use Rattle.ob_tables.proofs.ToldLemmas.{followed_same}
 
 -- ---- bags and selected rows

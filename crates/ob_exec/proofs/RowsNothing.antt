@@ -1,39 +1,19 @@
 -- A SELECT of rows of which nothing was counted yet.
-use Rattle.std.proofs.Common.{◌≡◌, inl, inr, ◌≤◌, ◌<◌, ◌+◌, ◌-◌, ℕ, Bool, false, List, [], ◌++◌, length, Option, Some, None, refl, sym, ◌∙◌, ap, subst, arith, length-append}
-use Rattle.std.specs.Prelude.{IsSome, nat_le}
-use Rattle.std.specs.Option.{option_map_or}
-use Rattle.ob_base.specs.declared.access.Access.{Access}
-use Rattle.ob_base.specs.declared.config.Plan.{Plan}
-use Rattle.ob_base.specs.declared.config.Public.{Public}
-use Rattle.ob_base.specs.declared.seen.Seen.{Seen}
-use Rattle.ob_base.specs.declared.seen.End.{End}
-use Rattle.ob_base.specs.declared.seen.End.TheVariants.{Whole}
+use Rattle.ob_exec.proofs.Words.{Access, answer_events, ap, arith, Bool, ChangesNothing, count_end, count_part, discard_at, done_of, End, Event, extent_of, false, from, HaltsRows, header, held_empty, held_if, HoldsRows, inl, inr, is_access, IsSome, LeavesNone, length, length-append, List, nat_le, None, Option, option_map_or, places, Plan, Public, refl, rows_script, seals_rests, Seen, selection, selection_seen, Slots, slots_of, Some, Source, SourceToHalt, Stored, stored_at, StoreState, subst, sym, walk_end, went_rests, Whole, ℕ, [], ◌++◌, ◌+◌, ◌-◌, ◌<◌, ◌∙◌, ◌≡◌, ◌≤◌}
 use Rattle.ob_base.specs.declared.skeleton.Skeleton.TheVariants.{Rows as RowsSkeleton}
-use Rattle.ob_base.specs.declared.skeleton.Source.{Source}
 use Rattle.ob_base.specs.declared.skeleton.Source.TheVariants.{Table as OneTable, Join}
-use Rattle.ob_base.specs.Accesses.{discard_at}
 use Rattle.ob_base.specs.Plans.{choose_padded, padded_rows}
-use Rattle.ob_base.specs.Events.{Event}
-use Rattle.ob_emit.specs.Emitting.{header}
 use Rattle.ob_select.proofs.UntilLemmas.{until_none}
-use Rattle.ob_base.specs.Stored.{Stored, stored_at, stored_regions}
-use Rattle.ob_row.specs.Slots.{Slots}
-use Rattle.ob_script.specs.Parts.{count_part}
-use Rattle.ob_script.specs.Script.{behind_count, extent_of, flat_script, join_script, plan_part, result_blocks, result_part, table_script, with_table}
-use Rattle.ob_store.specs.State.{StoreState}
-use Rattle.ob_store.specs.Calls.{ChangesNothing}
+use Rattle.ob_base.specs.Stored.{stored_regions}
+use Rattle.ob_script.specs.Script.{behind_count, flat_script, join_script, plan_part, result_blocks, result_part, table_script, with_table}
 use Rattle.ob_vault.specs.State.{VaultState}
 use Rattle.ob_vault.specs.Tied.{Ready}
 use Rattle.ob_vault.specs.declared.region.Region.{Region}
-use Rattle.ob_vault.proofs.WordLemmas.{seals_rests, went_rests}
 use Rattle.ob_flat.specs.declared.fault.OpErr.TheVariants as OpErrs
 use Rattle.ob_sql.specs.declared.stmt.SelectRows.{SelectRows}
-use Rattle.ob_mean.specs.Replay.{count_end, done_of, held_if, walk_end, is_access}
 use Rattle.ob_mean.specs.Verdict.{ended as seen_to}
-use Rattle.ob_select.specs.Selecting.{answer_events, from, places, selection_seen}
-use Rattle.ob_exec.specs.Sources.{HaltsRows, HoldsRows, LeavesNone, SourceToHalt, rows_script, rows_skeleton, selection, slots_of}
+use Rattle.ob_exec.specs.Sources.{rows_skeleton}
 use Rattle.ob_exec.proofs.RowsLawful.{seen_as}
-use Rattle.ob_select.proofs.SelectHeld.{held_empty}
 use Rattle.ob_exec.proofs.RowsSeconded.{Seconded, alone, followed, held_none, rows_seconded}
 use Rattle.ob_exec.proofs.RowsReach.{count_length, joined_part, joined_stored, part, part_length, table_asks, unpadded}
 use Rattle.ob_tables.proofs.RunLemmas.{world}

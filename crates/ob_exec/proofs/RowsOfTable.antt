@@ -1,40 +1,24 @@
 -- A SELECT of the rows of a flat table, by what is public: its slots, and what it asks.
-use Rattle.std.proofs.Common.{◌≡◌, ◌≤◌, ◌+◌, ◌*◌, ℕ, Bool, false, List, [], length, Option, Some, None, sym, ◌∙◌, ap, subst, arith, append-nil}
-use Rattle.std.specs.Prelude.{nat_le, nat_lt, slice_get}
-use Rattle.std.specs.Option.{option_map_or}
-use Rattle.ob_base.specs.declared.config.Public.{Public}
-use Rattle.ob_base.specs.declared.schema.Heading.{Heading}
+use Rattle.ob_exec.proofs.Words.{ap, append-nil, AreHeld, AreNamed, arith, Bool, count_end, count_part, counted_after, Cut, cut_at, done_of, extent_of, false, flat_of, Heading, heading_at, heading_found, headings_of, Held, held_at, held_empty, held_if, HoldsRows, HoldsSeen, Index, is_access, length, length-count_part, List, nat_le, nat_lt, None, Option, option_map_or, Public, rows_script, Seen, Selection, selection, selection_script, selection_seen, slice_get, Slots, slots_of, Some, some_buffered, Source, source_slots, stated, Stored, subst, sym, Tables, walk_end, Whole, World, ℕ, [], ◌*◌, ◌+◌, ◌∙◌, ◌≡◌, ◌≤◌}
 use Rattle.ob_base.specs.declared.schema.Shape.TheVariants.{Flat as FlatShape}
 use Rattle.ob_base.specs.declared.schema.Table.{Table}
-use Rattle.ob_base.specs.declared.seen.End.TheVariants.{Whole, Cut}
-use Rattle.ob_base.specs.declared.seen.Seen.{Seen}
 use Rattle.ob_base.specs.declared.skeleton.Skeleton.TheVariants.{Rows as RowsSkeleton}
-use Rattle.ob_base.specs.declared.skeleton.Source.{Source}
 use Rattle.ob_base.specs.declared.skeleton.Source.TheVariants.{Table as OneTable}
-use Rattle.ob_base.specs.Stored.{Stored, headings_of, heading_at, stored_region}
+use Rattle.ob_base.specs.Stored.{stored_region}
 use Rattle.ob_flat.specs.Flats.{Represents}
 use Rattle.ob_mean.specs.Lawful.{counted_slots}
-use Rattle.ob_mean.specs.Replay.{count_end, cut_at, done_of, ending_len, held_if, is_access, walk_end}
-use Rattle.ob_mean.specs.Verdict.{Held, Tables, ended as seen_to, source_slots}
+use Rattle.ob_mean.specs.Replay.{ending_len}
+use Rattle.ob_mean.specs.Verdict.{ended as seen_to}
 use Rattle.ob_mean.proofs.FlatLemmas.{shape_is}
 use Rattle.ob_names.specs.Names.{source_columns}
-use Rattle.ob_oram.specs.declared.index.Index.{Index}
-use Rattle.ob_row.specs.Slots.{Slots}
-use Rattle.ob_script.specs.Parts.{count_part}
-use Rattle.ob_script.specs.Script.{blocks_of, extent_of, flat_script, select_part, source_script, table_script}
-use Rattle.ob_script.proofs.Lengths.{length-count_part}
-use Rattle.ob_select.specs.Selecting.{HoldsSeen, Selection, counted_after, region_of, selection_script, selection_seen, walked_after}
-use Rattle.ob_select.proofs.ResultParts.{some_buffered}
-use Rattle.ob_select.proofs.SelectHeld.{held_empty}
+use Rattle.ob_script.specs.Script.{blocks_of, flat_script, select_part, source_script, table_script}
+use Rattle.ob_select.specs.Selecting.{region_of, walked_after}
 use Rattle.ob_select.proofs.SelectLength.{select_length}
 use Rattle.ob_sql.specs.declared.stmt.SelectRows.{SelectRows}
-use Rattle.ob_tables.specs.Engines.{flat_of}
-use Rattle.ob_tables.specs.Telling.{AreHeld}
-use Rattle.ob_tables.proofs.FoundLemmas.{heading_found, shape_found}
-use Rattle.ob_tables.proofs.HeldLemmas.{Beside, held_at}
-use Rattle.ob_tables.proofs.TableLemmas.{AreNamed, stored_found}
-use Rattle.ob_vault.specs.State.{World}
-use Rattle.ob_exec.specs.Sources.{HoldsRows, rows_script, rows_skeleton, selection, slots_of, stated}
+use Rattle.ob_tables.proofs.FoundLemmas.{shape_found}
+use Rattle.ob_tables.proofs.HeldLemmas.{Beside}
+use Rattle.ob_tables.proofs.TableLemmas.{stored_found}
+use Rattle.ob_exec.specs.Sources.{rows_skeleton}
 
 -- what is held of the rows of any source after n accesses is what its meaning shows by then
 pub cut_of_rows : (p : Public) (select : SelectRows) (slots : Slots) (meant : Seen) → meant ≡ selection_seen (selection p select) slots → (selection_seen (selection p select) slots).leaf ≡ None → (failed : Bool) (n : ℕ) (now : Seen)

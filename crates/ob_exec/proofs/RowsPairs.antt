@@ -1,27 +1,14 @@
 -- A SELECT of a join that its pairing stopped.
-use Rattle.std.proofs.Common.{◌≡◌, ◌⊎◌, inl, inr, ◌≤◌, ◌<◌, ◌-◌, ℕ, Bool, true, false, List, [], ◌∷◌, ◌++◌, length, sym, ◌∙◌, ap, subst, arith, length-append, append_assoc}
-use Rattle.std.specs.Prelude.{IsSome}
-use Rattle.ob_base.specs.declared.access.Access.{Access}
-use Rattle.ob_base.specs.declared.config.Public.{Public}
-use Rattle.ob_base.specs.declared.seen.Seen.{Seen}
-use Rattle.ob_base.specs.declared.seen.End.TheVariants.{Whole}
-use Rattle.ob_base.specs.Events.{Event}
-use Rattle.ob_emit.specs.Emitting.{header}
+use Rattle.ob_exec.proofs.Words.{Access, answer_events, ap, append_assoc, arith, Bool, count_end, done_of, Event, false, from, HaltsRows, header, inl, inr, is_access, is_of_access, IsSome, LeavesNone, length, length-append, List, MayHold, OpErr, PassCut, Public, ReadsIn, rows_script, SealsRows, Seen, selection, selection_seen, slots_of, SourceToEnd, SourceToHalt, subst, sym, true, Whole, World, ℕ, [], ◌++◌, ◌-◌, ◌<◌, ◌∙◌, ◌∷◌, ◌≡◌, ◌≤◌, ◌⊎◌}
 use Rattle.ob_select.proofs.UntilLemmas.{until_none}
 use Rattle.ob_store.specs.Runs.{Did}
-use Rattle.ob_vault.specs.State.{World}
-use Rattle.ob_flat.specs.declared.fault.OpErr.{OpErr}
 use Rattle.ob_flat.specs.declared.fault.OpErr.TheVariants as OpErrs
-use Rattle.ob_flat.specs.Passes.{PassCut, is_of_access}
 use Rattle.ob_flat.proofs.Runs.{pass_more}
-use Rattle.ob_mean.specs.Replay.{count_end, done_of, is_access}
 use Rattle.ob_mean.specs.Verdict.{ended as seen_to}
 use Rattle.ob_sql.specs.declared.stmt.SelectRows.{SelectRows}
 use Rattle.ob_select.specs.Memory.{is_make}
-use Rattle.ob_select.specs.Selecting.{MayHold, SealsRows, answer_events, from, selection_seen}
 use Rattle.ob_select.proofs.LieLemmas.{cut_in}
-use Rattle.ob_vault.specs.Tied.{ReadsIn}
-use Rattle.ob_exec.specs.Sources.{HaltsRows, LeavesNone, SourceToEnd, SourceToHalt, rows_script, rows_skeleton, selection, slots_of}
+use Rattle.ob_exec.specs.Sources.{rows_skeleton}
 use Rattle.ob_exec.proofs.RowsNothing.{holds_nothing}
 
 done_within : (failed : Bool) (n : ℕ) → done_of failed n ≤ n

@@ -1,47 +1,26 @@
 -- A SELECT of rows whose rows were emitted, and that was stopped at their number.
-use Rattle.std.proofs.Common.{◌≡◌, ◌⊎◌, inl, inr, ◌≤◌, ◌+◌, ◌-◌, ℕ, Bool, true, false, List, [], ◌++◌, length, Option, Some, None, refl, sym, ◌∙◌, ap, subst, arith, length-append, append-nil, append_assoc}
-use Rattle.std.specs.Prelude.{nat_le}
-use Rattle.std.specs.Option.{option_map_or}
-use Rattle.std.proofs.lemmas.Bool.Decides.{nat_tests}
+use Rattle.ob_exec.proofs.Words.{Access, answer_events, ap, append-nil, append_assoc, arith, Bool, buffered_blocks, Calm, closing, count_end, count_part, discard_at, End, EndsRows, Event, extent_of, false, header, held_if, HoldsRows, inl, inr, is_access, is_of_access, Leads, length, length-append, List, MayHold, nat_le, nat_tests, None, OpErr, Option, option_map_or, Plan, Public, refl, Refusal, row_events, rows_script, Seen, Selected, Selection, selection, selection_answer, slots_of, Some, Source, SourceToEnd, SourceToHalt, Stored, stored_at, subst, sym, true, unfit_none, walk_end, Whole, World, ℕ, [], ◌++◌, ◌+◌, ◌-◌, ◌∙◌, ◌≡◌, ◌≤◌, ◌⊎◌}
 use Rattle.ob_base.specs.declared.schema.Shape.TheVariants.{Flat as FlatShape}
-use Rattle.ob_base.specs.declared.access.Access.{Access}
-use Rattle.ob_base.specs.declared.config.Plan.{Plan}
-use Rattle.ob_base.specs.declared.config.Public.{Public}
-use Rattle.ob_base.specs.declared.refusal.Refusal.{Refusal}
-use Rattle.ob_base.specs.declared.seen.Seen.{Seen}
-use Rattle.ob_base.specs.declared.seen.End.{End}
-use Rattle.ob_base.specs.declared.seen.End.TheVariants.{Whole}
-use Rattle.ob_base.specs.declared.skeleton.Source.{Source}
 use Rattle.ob_base.specs.declared.skeleton.Source.TheVariants.{Table as OneTable, Join}
-use Rattle.ob_base.specs.Accesses.{discard_at}
-use Rattle.ob_base.specs.Events.{Event, Leads, row_events}
 use Rattle.ob_base.specs.Joins.{joined_slots}
-use Rattle.ob_base.specs.Limits.{buffered_blocks}
-use Rattle.ob_base.specs.Stored.{Stored, stored_at, stored_regions}
-use Rattle.ob_script.specs.Parts.{count_part, join_part}
+use Rattle.ob_base.specs.Stored.{stored_regions}
+use Rattle.ob_script.specs.Parts.{join_part}
 use Rattle.ob_mean.proofs.FlatLemmas.{shape_is}
 use Rattle.ob_tables.proofs.PlainLemmas.{table_is}
-use Rattle.ob_mean.specs.Replay.{has_index, is_access}
-use Rattle.ob_script.specs.Script.{after_count, behind_count, blocks_of, extent_of, flat_script, join_script, joined_extent, result_part, rows_width, select_part, table_script, with_table}
-use Rattle.ob_vault.specs.State.{World}
-use Rattle.ob_vault.specs.Tied.{Calm}
+use Rattle.ob_mean.specs.Replay.{has_index}
+use Rattle.ob_script.specs.Script.{after_count, behind_count, blocks_of, flat_script, join_script, joined_extent, result_part, rows_width, select_part, table_script, with_table}
 use Rattle.ob_vault.proofs.WorldSteps.{calm_none}
-use Rattle.ob_flat.specs.declared.fault.OpErr.{OpErr}
 use Rattle.ob_flat.specs.declared.fault.OpErr.TheVariants as OpErrs
-use Rattle.ob_flat.specs.Passes.{PassCause, is_of_access}
-use Rattle.ob_emit.specs.Emitting.{header}
+use Rattle.ob_flat.specs.Passes.{PassCause}
 use Rattle.ob_select.proofs.UntilLemmas.{until_given}
 use Rattle.ob_sql.specs.declared.stmt.SelectRows.{SelectRows}
-use Rattle.ob_mean.specs.Replay.{count_end, held_if, walk_end}
 use Rattle.ob_mean.specs.Verdict.{ended as seen_to}
-use Rattle.ob_select.specs.declared.selecting.Selected.{Selected}
 use Rattle.ob_select.specs.declared.selecting.Selected.TheVariants.{Rows, Refused}
-use Rattle.ob_select.specs.Selecting.{EndsSelected, MayHold, Selection, answer_events, selection_answer, emitted_unless, selected_as, shown_rows}
-use Rattle.ob_exec.specs.Sources.{EndsRows, HoldsRows, SourceToEnd, SourceToHalt, closing, rows_script, rows_skeleton, selection, slots_of}
+use Rattle.ob_select.specs.Selecting.{EndsSelected, emitted_unless, selected_as, shown_rows}
+use Rattle.ob_exec.specs.Sources.{rows_skeleton}
 use Rattle.ob_select.specs.Memory.{HasCounted}
 use Rattle.ob_exec.proofs.RowsLawful.{seen_as, uncounted, unread}
 use Rattle.ob_exec.proofs.RowsStops.{StopsRows}
-use Rattle.ob_tables.proofs.EmitLemmas.{unfit_none}
 
 -- ---- no more than is asked
 module _ (p : Public) (g : ℕ) (t : Stored ℕ) (pre ending : List Access) where

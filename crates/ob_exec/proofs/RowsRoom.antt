@@ -1,14 +1,11 @@
 -- The room and the region of a join, over the selection of its rows.
-use Rattle.std.proofs.Common.{◌≡◌, max, ℕ, sym, ◌∙◌, ap, subst, arith}
-use Rattle.ob_room.specs.RoomState.{RoomState}
-use Rattle.ob_vault.specs.State.{World}
+use Rattle.ob_exec.proofs.Words.{ap, arith, from, Lasts, RoomState, subst, sym, UsesRoomFor, World, ℕ, ◌∙◌, ◌≡◌}
+use Rattle.std.proofs.Common.{max}
 use Rattle.ob_vault.specs.Tied.{Lives, Ready}
-use Rattle.ob_vault.specs.Calls.{Lasts}
 use Rattle.ob_vault.specs.declared.region.Region.{Region}
 use Rattle.ob_vault.proofs.Runs.{lives_lasts}
 use Rattle.ob_flat.specs.declared.flat.Flat.{Flat}
-use Rattle.ob_select.specs.Selecting.{UsesRoom, from}
-use Rattle.ob_exec.specs.Sources.{UsesRoomFor}
+use Rattle.ob_select.specs.Selecting.{UsesRoom}
 
 pub room_twice : (old mid new : RoomState) (n : ℕ) (a d : World) → mid ≡ record old { high = max old.high n } → UsesRoom mid new → UsesRoomFor old new a d
 room_twice old mid new n a d is used =

@@ -1,40 +1,22 @@
 -- What a SELECT of rows leaves, whatever the store does.
-use Rattle.std.proofs.Common.{◌≡◌, inl, inr, ◌+◌, ◌-◌, ◌%◌, ◌^◌, ℕ, Bool, false, List, [], ◌∷◌, ◌++◌, length, take, None, Ok, refl, sym, ◌∙◌, ap, subst, arith, length-append}
-use Rattle.ob_base.specs.declared.access.Access.{Access}
-use Rattle.ob_base.specs.declared.config.Public.{Public}
-use Rattle.ob_base.specs.declared.seen.Seen.{Seen}
-use Rattle.ob_base.specs.declared.seen.End.{End}
-use Rattle.ob_base.specs.declared.seen.End.TheVariants.{Static, Whole, AfterCount, Joined, Cut}
-use Rattle.ob_base.specs.Events.{Event}
-use Rattle.ob_room.specs.RoomState.{RoomState}
-use Rattle.ob_store.specs.State.{StoreState}
+use Rattle.ob_exec.proofs.Words.{Access, AfterCount, Agrees, answer_of, ap, arith, at, Bool, Cut, End, EndsRows, Engine, Event, false, from, inl, inr, is_access, is_fault, is_stop, IsFree, Joined, Lasts, LeavesNone, length, length-append, List, None, of_other, Ok, Opens, OpErr, others_of, PassCut, Public, refl, region_below, RevState, RoomState, rows_script, run_script, same_script, Seen, Selected, selected_outcome, selection, Static, StoreState, subst, sym, take, UsesRoomFor, Vault, Whole, World, world_of, ℕ, [], ◌++◌, ◌+◌, ◌-◌, ◌^◌, ◌∙◌, ◌∷◌, ◌≡◌}
+use Rattle.std.proofs.Common.{◌%◌}
 use Rattle.ob_store.proofs.Steps.{began_take}
-use Rattle.ob_script.specs.Saved.{run_next, run_script}
+use Rattle.ob_script.specs.Saved.{run_next}
 use Rattle.ob_script.specs.Tables.{tables_then}
-use Rattle.ob_vault.specs.State.{RevState, World}
 use Rattle.ob_vault.specs.Tied.{Ready}
-use Rattle.ob_vault.specs.Calls.{Lasts}
-use Rattle.ob_vault.specs.declared.vault.Vault.{Vault}
-use Rattle.ob_vault.specs.Places.{at, start_of}
-use Rattle.ob_flat.specs.declared.fault.OpErr.{OpErr}
+use Rattle.ob_vault.specs.Places.{start_of}
 use Rattle.ob_flat.specs.declared.fault.OpErr.TheVariants as OpErrs
-use Rattle.ob_flat.specs.Passes.{PassCut, PassCause}
+use Rattle.ob_flat.specs.Passes.{PassCause}
 use Rattle.ob_sql.specs.declared.stmt.SelectRows.{SelectRows}
-use Rattle.ob_verdict.proofs.LawfulProof.{same_script}
-use Rattle.ob_tables.specs.declared.engine.Engine.{Engine}
-use Rattle.ob_select.specs.declared.selecting.Selected.{Selected}
-use Rattle.ob_tables.specs.Agreeing.{Agrees, world_of}
-use Rattle.ob_select.specs.Settings.{IsFree}
-use Rattle.ob_tables.specs.Engines.{AreTables, others_of}
-use Rattle.ob_select.specs.Opening.{Opens}
-use Rattle.ob_tables.specs.Running.{RanStatement, RunCause, GoesOn, Continues, answer_of, is_fault, is_stop, result_end}
-use Rattle.ob_select.specs.Selecting.{from}
-use Rattle.ob_exec.specs.Sources.{EndsRows, LeavesNone, UsesRoomFor, rows_script, rows_skeleton, selected_outcome, selection}
-use Rattle.ob_tables.proofs.RunLemmas.{asks_cut, asks_none, leaves_none, left_on, may_have, no_access, none_by, of_other, taken_none}
+use Rattle.ob_tables.specs.Engines.{AreTables}
+use Rattle.ob_tables.specs.Running.{RanStatement, RunCause, GoesOn, Continues, result_end}
+use Rattle.ob_exec.specs.Sources.{rows_skeleton}
+use Rattle.ob_tables.proofs.RunLemmas.{asks_cut, asks_none, leaves_none, left_on, may_have, no_access, none_by, taken_none}
 use Rattle.ob_tables.proofs.PlainLemmas.{none_drawn}
-use Rattle.ob_mean.specs.Replay.{draws_taken, is_access}
+use Rattle.ob_mean.specs.Replay.{draws_taken}
 use Rattle.ob_exec.proofs.RowsLawful.{ended_end, ended_whole, ended_well}
-use Rattle.ob_tables.proofs.TableLemmas.{beside_below, tables_kept, region_below}
+use Rattle.ob_tables.proofs.TableLemmas.{beside_below, tables_kept}
 use Rattle.ob_select.proofs.RoomLemmas.{free_after}
 
 -- an engine after a SELECT
@@ -49,22 +31,15 @@ rows_after old v room seen ended = record old {
 
 same_tables : (p : Public) (select : SelectRows) (end : End) → p.tables ≡ tables_then p (rows_skeleton select) end
 same_tables p select Static = refl
-same_tables p select Whole = refl
-same_tables p select AfterCount = refl
-same_tables p select Joined = refl
-same_tables p select (Cut n) = refl
+same_tables p select other = refl
 
 cut_ends : (e : OpErr) (n : ℕ) → Cut n ≡ result_end (answer_of e) n
 cut_ends OpErrs.Failed n = refl
-cut_ends (OpErrs.Tampered q x) n = refl
-cut_ends OpErrs.Sink n = refl
-cut_ends OpErrs.NoMemory n = refl
+cut_ends other n = refl
 
 cut_cause : (e : OpErr) (a b : World) → PassCause e a b → RunCause (answer_of e) a b
 cut_cause OpErrs.Failed a b cause = cause
-cut_cause (OpErrs.Tampered q x) a b cause = cause
-cut_cause OpErrs.Sink a b cause = cause
-cut_cause OpErrs.NoMemory a b cause = cause
+cut_cause other a b cause = cause
 
 module _ {R : Type 0} (state : R → RevState) (old : Engine R) (s : StoreState) (v : Vault R) (room : RoomState) (t : StoreState) (select : SelectRows)
     (agrees : Agrees state old s) (used : UsesRoomFor old.room room (world_of state old s) (at state v t)) where
@@ -127,9 +102,7 @@ module _ {R : Type 0} (state : R → RevState) (old : Engine R) (s : StoreState)
   cut_on : (e : OpErr) (seen : Seen) → GoesOn state (rows_skeleton select) (run_next old.public (rows_skeleton select) seen) old (rows_after old v room seen false) t
       → Continues state (rows_skeleton select) (run_next old.public (rows_skeleton select) seen) (answer_of e) old (rows_after old v room seen (is_stop (answer_of e))) t
   cut_on OpErrs.Failed seen on = on
-  cut_on (OpErrs.Tampered q x) seen on = refl
-  cut_on OpErrs.Sink seen on = refl
-  cut_on OpErrs.NoMemory seen on = refl
+  cut_on other seen on = refl
 
   -- it was cut off
   pub rows_cut : is_access old.public (rows_skeleton select) ≡ false → (e : OpErr) (seen : Seen) (n : ℕ) → seen.leaf ≡ None → n ≡ length t.asked - length s.asked

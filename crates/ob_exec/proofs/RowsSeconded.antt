@@ -1,15 +1,7 @@
 -- A second plan comes behind a first, and nothing is held of either before.
-use Rattle.std.proofs.Common.{◌≡◌, ◌<◌, ℕ, Bool, false, true, List, [], ◌∷◌, length, Option, Some, None, if◌then◌else◌, refl, sym, ap, arith}
-use Rattle.std.specs.Prelude.{nat_le}
-use Rattle.std.proofs.lemmas.Bool.Decides.{nat_tests}
-use Rattle.ob_base.specs.declared.config.Plan.{Plan}
-use Rattle.ob_base.specs.declared.config.Plan.TheVariants.{Small, Large, Continuous, Hash}
-use Rattle.ob_base.specs.declared.config.Public.{Public}
-use Rattle.ob_base.specs.declared.seen.Seen.{Seen}
-use Rattle.ob_base.specs.declared.seen.End.{End}
-use Rattle.ob_base.specs.declared.seen.End.TheVariants.{Whole, AfterCount}
+use Rattle.ob_exec.proofs.Words.{AfterCount, ap, arith, Bool, End, false, Hash, held_if, if◌then◌else◌, length, List, nat_le, nat_tests, None, Option, Plan, Public, refl, Seen, Small, Some, sym, true, Whole, ℕ, [], ◌<◌, ◌∷◌, ◌≡◌}
+use Rattle.ob_base.specs.declared.config.Plan.TheVariants.{Large, Continuous}
 use Rattle.ob_row.specs.Slots.{is_consecutive}
-use Rattle.ob_mean.specs.Replay.{held_if}
 use Rattle.ob_mean.specs.Verdict.{fallback, first_unplaced, plan_for, seen_by, seen_rows, seen_with}
 use Rattle.ob_exec.proofs.RowsLawful.{seen_as}
 

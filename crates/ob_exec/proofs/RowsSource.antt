@@ -1,26 +1,19 @@
 -- The rows of the source of a SELECT.
-use Rattle.std.proofs.Common.{◌≡◌, ◌≤◌, ◌==◌, ℕ, true, false, cond, List, [], ◌∷◌, Option, Some, None, refl, sym, ap, subst}
+use Rattle.ob_exec.proofs.Words.{ap, AreInPlace, buffered_blocks, database, false, Heading, heading_at, headings, Held, List, None, Option, option_map_or, Public, refl, rows, Same, Some, source_rows, source_slots, Stored, stored_at, subst, sym, Tables, true, ℕ, [], ◌∷◌, ◌≡◌, ◌≤◌}
+use Rattle.std.proofs.Common.{◌==◌, cond}
 use Rattle.std.specs.Prelude.{bytes_eq}
-use Rattle.std.specs.Option.{option_map_or}
 use Rattle.std.proofs.lemmas.Bool.Decides.{Decides-eqb}
-use Rattle.ob_base.specs.declared.config.Public.{Public}
-use Rattle.ob_base.specs.declared.schema.Heading.{Heading}
 use Rattle.ob_base.specs.declared.skeleton.ColumnName.{ColumnName}
 use Rattle.ob_base.specs.declared.skeleton.Source.TheVariants.{Join}
 use Rattle.ob_base.specs.Schemas.{key_place}
-use Rattle.ob_base.specs.Limits.{buffered_blocks}
-use Rattle.ob_base.specs.Stored.{Stored, headings, heading_at, stored_at}
-use Rattle.ob_row.specs.Bags.{Same}
 use Rattle.ob_row.specs.Rows.{AreDistinct, Row, keys_repeat, pairs}
-use Rattle.ob_row.specs.Slots.{rows}
 use Rattle.ob_row.proofs.BagLemmas.{Same-refl}
 use Rattle.ob_names.specs.Names.{columns_at}
 use Rattle.ob_mean.specs.Refusals.{joins_off_key_at}
-use Rattle.ob_mean.specs.Step.{join_places, rows_at, source_rows}
+use Rattle.ob_mean.specs.Step.{join_places, rows_at}
 use Rattle.ob_mean.proofs.VerdictLemmas.{headings-database}
-use Rattle.ob_verdict.specs.Laws.{AreInPlace}
 use Rattle.ob_verdict.proofs.JoinLemmas.{rows-joined}
-use Rattle.ob_mean.specs.Verdict.{Held, Tables, database, slots_at, source_slots}
+use Rattle.ob_mean.specs.Verdict.{slots_at}
 use Rattle.std.proofs.lemmas.Bool.{not-false}
 
 -- ---- rows

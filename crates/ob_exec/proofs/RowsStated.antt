@@ -1,15 +1,9 @@
 -- What is held, and how it ends, doesn't hang on where the rows lie.
-use Rattle.std.proofs.Common.{ℕ, Option, Some, None, inl, inr}
-use Rattle.ob_base.specs.declared.config.Plan.{Plan}
-use Rattle.ob_base.specs.declared.config.Plan.TheVariants.{Small, Hash}
-use Rattle.ob_base.specs.declared.config.Public.{Public}
-use Rattle.ob_base.specs.declared.refusal.Refusal.TheVariants.{NotConsecutive, Overflow, PadPassed}
-use Rattle.ob_base.specs.declared.seen.Seen.{Seen}
+use Rattle.ob_exec.proofs.Words.{Hash, inl, inr, MayHold, None, Option, PadPassed, Plan, Public, Seen, Selected, selection, Small, Some, stated, ℕ}
+use Rattle.ob_base.specs.declared.refusal.Refusal.TheVariants.{NotConsecutive, Overflow}
 use Rattle.ob_sql.specs.declared.stmt.SelectRows.{SelectRows}
-use Rattle.ob_select.specs.declared.selecting.Selected.{Selected}
 use Rattle.ob_select.specs.declared.selecting.Selected.TheVariants.{Rows, Refused}
-use Rattle.ob_select.specs.Selecting.{EndsSelected, EndsPadded, IsCountOf, IsPlanOf, MayHold}
-use Rattle.ob_exec.specs.Sources.{selection, stated}
+use Rattle.ob_select.specs.Selecting.{EndsSelected, EndsPadded, IsCountOf, IsPlanOf}
 
 module _ (p : Public) (select : SelectRows) (region ending : ℕ) where
   plan_stated : (k : ℕ) (plan : Plan) → IsPlanOf (stated p select region ending) k plan → IsPlanOf (selection p select) k plan

@@ -1,65 +1,26 @@
 -- A SELECT of rows that was stopped, or that the store cut off.
-use Rattle.std.proofs.Common.{◌≡◌, ◌⊎◌, inl, inr, ◌≤◌, ◌-◌, if◌then◌else◌, ℕ, Bool, true, false, List, [], ◌∷◌, ◌++◌, length, Option, Some, None, Err, Result, refl, sym, ◌∙◌, ap, subst, arith, length-append}
-use Rattle.std.specs.Prelude.{IfOk, IfErr}
-use Rattle.ob_base.specs.declared.config.Public.{Public}
-use Rattle.ob_tables.specs.declared.stop.RunStop.{RunStop}
+use Rattle.ob_exec.proofs.Words.{Access, accessed, Agrees, answer_events, answer_labels, answer_of, ap, AreDraws, AreInPlace, arith, at, Bool, closing, count_of, Cut, cut_at, database, Draws, early_held, early_refusal, Engine, Err, Event, false, from, HaltsRows, Hash, HasHalted, Head, header, headings, headings_of, HoldsRows, IfErr, IfOk, if◌then◌else◌, inl, inr, is_access, is_late, is_of_access, is_refused, is_stop, IsNotTampered, IsUnfit, labels_of, Lasts, Leads, LeavesNone, length, length-append, Lie, limits_of, List, MayHold, None, none_before, OpErr, Option, others_of, Outcome, PassCut, places, Plan, Public, ReadsIn, ReadsTrue, ReadsTrueUntil, refl, refusal_now, RefusedEarly, region_below, Result, RevState, RoomState, row_events, rows, rows_script, run_script, RunStop, Same, same_script, SealsRows, Seen, Selected, selection, selection_answer, selection_seen, Serves, SinkCause, SinkStops, skeleton, slots_of, Small, Some, source_rows, SourceToEnd, SourceToHalt, Static, Stopped, StoreState, subst, sym, Tables, true, until_end, UsesRoomFor, Vault, World, world_of, ℕ, [], ◌++◌, ◌-◌, ◌∙◌, ◌∷◌, ◌≡◌, ◌≤◌, ◌⊎◌}
 use Rattle.ob_tables.specs.declared.stop.RunStop.TheVariants as Stops
-use Rattle.ob_base.specs.declared.seen.Seen.{Seen}
-use Rattle.ob_base.specs.declared.seen.End.TheVariants.{Static, Cut}
-use Rattle.ob_base.specs.Events.{Event, Head, Leads, row_events}
-use Rattle.ob_base.specs.Stored.{headings, headings_of}
-use Rattle.ob_room.specs.RoomState.{RoomState}
-use Rattle.ob_row.specs.Bags.{Same}
-use Rattle.ob_row.specs.Slots.{rows, is_consecutive}
-use Rattle.ob_base.specs.declared.access.Access.{Access}
-use Rattle.ob_base.specs.declared.config.Plan.{Plan}
-use Rattle.ob_base.specs.declared.config.Plan.TheVariants.{Small, Large, Continuous, Hash}
-use Rattle.ob_script.specs.Saved.{run_script}
-use Rattle.ob_script.specs.Script.{until_end}
-use Rattle.ob_store.specs.State.{StoreState, Lie}
-use Rattle.ob_store.proofs.Steps.{none_before}
-use Rattle.ob_vault.specs.State.{RevState, World}
-use Rattle.ob_vault.specs.Tied.{IsUnfit, ReadsIn}
-use Rattle.ob_vault.specs.Calls.{Lasts}
-use Rattle.ob_vault.specs.declared.vault.Vault.{Vault}
-use Rattle.ob_vault.specs.Places.{at}
-use Rattle.ob_flat.specs.declared.fault.OpErr.{OpErr}
+use Rattle.ob_row.specs.Slots.{is_consecutive}
+use Rattle.ob_base.specs.declared.config.Plan.TheVariants.{Large, Continuous}
 use Rattle.ob_flat.specs.declared.fault.OpErr.TheVariants as OpErrs
-use Rattle.ob_flat.specs.Passes.{PassCut, SinkCause, is_of_access}
-use Rattle.ob_emit.specs.Emitting.{header, labels_of}
 use Rattle.ob_sql.specs.declared.stmt.SelectRows.{SelectRows}
 use Rattle.ob_sql.specs.declared.stmt.Stmt.TheVariants.{SelectRows as RowsStmt}
-use Rattle.ob_mean.specs.Refusals.{early_refusal, limits_of}
-use Rattle.ob_mean.specs.Replay.{cut_at}
-use Rattle.ob_mean.specs.Step.{source_rows}
-use Rattle.ob_mean.specs.Verdict.{accessed, Draws, Tables, database, is_late, plan_for, seen, seen_by, seen_with}
-use Rattle.ob_verdict.specs.Laws.{AreInPlace}
-use Rattle.ob_verdict.proofs.LawfulProof.{same_script}
-use Rattle.ob_tables.specs.declared.engine.Engine.{Engine}
-use Rattle.ob_verdict.specs.declared.outcome.Outcome.{Outcome}
-use Rattle.ob_select.specs.declared.selecting.Selected.{Selected}
-use Rattle.ob_tables.specs.Agreeing.{Agrees, AreDraws, world_of, count_of}
-use Rattle.ob_tables.specs.Running.{RefusedEarly, SinkStops, answer_of, is_stop, stops_access}
-use Rattle.ob_verdict.specs.Outcomes.{refusal_now}
-use Rattle.ob_select.specs.Selecting.{MayHold, SealsRows, answer_events, selection_answer, from, places, selection_seen}
-use Rattle.ob_tables.specs.Serving.{Answered, StopsEmission, Serves, Stopped}
+use Rattle.ob_mean.specs.Verdict.{plan_for, seen, seen_by, seen_with}
+use Rattle.ob_tables.specs.Running.{stops_access}
+use Rattle.ob_tables.specs.Serving.{Answered, StopsEmission}
 use Rattle.ob_select.specs.Halting.{EmitsUntil, TakesPart}
-use Rattle.ob_select.specs.Memory.{HasHalted}
 use Rattle.ob_tables.proofs.EmitLemmas.{lie_none}
 use Rattle.ob_select.proofs.UntilLemmas.{until_failed, until_more}
-use Rattle.ob_exec.specs.Sources.{HaltsRows, HoldsRows, LacksRowMemory, LeavesNone, ReachesRows, ReadsMeant, SourceToEnd, SourceToHalt, UsesRoomFor, closing, rows_script, rows_skeleton, selection, slots_of}
-use Rattle.ob_tables.specs.Telling.{IsNotTampered, ReadsTrue, ReadsTrueUntil, Represents, SeenCut, Told, answer_labels, is_refused, meant_script}
+use Rattle.ob_exec.specs.Sources.{LacksRowMemory, ReachesRows, ReadsMeant, rows_skeleton}
+use Rattle.ob_tables.specs.Telling.{Represents, SeenCut, Told, meant_script}
 use Rattle.ob_tables.proofs.HeldLemmas.{held_headings, held_kept, held_plain}
 use Rattle.ob_tables.proofs.PlainLemmas.{none_room, pass_stops}
-use Rattle.ob_mean.specs.Replay.{is_access}
-use Rattle.ob_sql.specs.Skeleton.{skeleton}
 use Rattle.ob_exec.proofs.RowsLawful.{lawful_cut}
 use Rattle.ob_exec.proofs.RowsMeaning.{rows_partly, rows_seen, rows_unfinished, rows_unread}
 use Rattle.ob_exec.proofs.RowsOfTable.{cut_of_rows}
 use Rattle.ob_exec.proofs.RowsRun.{rows_after, rows_cut}
-use Rattle.ob_tables.specs.Engines.{others_of}
-use Rattle.ob_tables.proofs.TableLemmas.{beside_below, region_below}
-use Rattle.ob_tables.proofs.ToldLemmas.{early_held}
+use Rattle.ob_tables.proofs.TableLemmas.{beside_below}
 use Rattle.ob_tables.proofs.RunLemmas.{no_access, only_memory}
 use Rattle.ob_verdict.proofs.RowEvents.{are_rows}
 
@@ -100,10 +61,8 @@ until_rows None p n (i ∷ is) all = by (plan_for p n (i ∷ is))
     side false x y one two = two
 
     by : (plan : Plan) → until_end (seen_with p plan (i ∷ is)).end all ≡ all
-    by Small = refl
-    by Large = refl
     by Continuous = side (is_consecutive (i ∷ is)) _ _ refl refl
-    by Hash = refl
+    by other = refl
 
 pub stops_halted : {E : Type 0} {grew cut : E → E → List Event → Type 0} {p : Public} {select : SelectRows} {error : OpErr} {now : Seen} {old new : World} {out_old out_new : E}
     → HaltsRows grew cut p select error now old new out_old out_new → StopsRows grew cut p select error now old new out_old out_new
@@ -129,9 +88,7 @@ early_none p m select result now none started = subst (λ o. RefusedEarly o resu
 
 sink_of : (e : OpErr) (a b : ℕ) → SinkCause {T = Selected} (Err e) a b → SinkStops (answer_of e) a b
 sink_of OpErrs.Failed a b cause = cause
-sink_of (OpErrs.Tampered q x) a b cause = cause
-sink_of OpErrs.Sink a b cause = cause
-sink_of OpErrs.NoMemory a b cause = cause
+sink_of other a b cause = cause
 
 module _ {R : Type 0} (state : R → RevState) (old : Engine R) (s : StoreState) (v : Vault R) (room : RoomState) (t : StoreState) (select : SelectRows)
     (agrees : Agrees state old s) (free : refusal_now old.public (count_of old s) (RowsStmt select) ≡ None) (source : IsSource old.public select)
@@ -223,9 +180,7 @@ module _ {R : Type 0} (state : R → RevState) (old : Engine R) (s : StoreState)
       seen = seen_cut tables reads.held d true now n count is.leaf (is.held (to_halt tables reads));
       held = still_held (record now { end = Cut n }) false tables reads.held;
     }
-    stop_told (OpErrs.Tampered q x) is tables d reads = tt
-    stop_told OpErrs.Sink is tables d reads = tt
-    stop_told OpErrs.NoMemory is tables d reads = tt
+    stop_told other is tables d reads = tt
 
     stop_honest : (e : OpErr) → StopsRows grew cut old.public select e now before after out_old out_new → (tables : Tables) → ReadsTrue state old s t tables → IfErr (answer_of e) IsNotTampered
     stop_honest OpErrs.Failed is tables reads = tt
@@ -260,9 +215,7 @@ module _ {R : Type 0} (state : R → RevState) (old : Engine R) (s : StoreState)
               rows_unfinished old.public (count_of old s) select tables (headed tables reads.held) reads.held.in_place (flat tables reads.held) (early tables reads.held)
               agrees.settings.pack_least agrees.settings.blocks agrees.settings.padded source.labelled (rows_of tables reads.held) part.events rest.0 rest.1;
         }
-    stop_answered (OpErrs.Tampered q x) is = tt
-    stop_answered OpErrs.Sink is = tt
-    stop_answered OpErrs.NoMemory is = tt
+    stop_answered other is = tt
 
     abbrev All : SourceToHalt old.public before after → List Event
     All x = answer_events (selection old.public select) (slots_of old.public select x.tables) ++ closing (selection_answer (selection old.public select) (slots_of old.public select x.tables))

@@ -1,59 +1,26 @@
 -- A SELECT of the rows of a table.
-use Rattle.std.proofs.Common.{◌≡◌, inl, ◌≤◌, ◌<◌, ◌+◌, ◌-◌, ℕ, Bool, false, List, [], ◌++◌, length, Some, None, Ok, Err, Result, refl, sym, ◌∙◌, ap, subst, arith, append-nil}
-use Rattle.std.specs.Prelude.{IsTrue, slice_get}
-use Rattle.std.proofs.lemmas.Bool.Decides.{nat_tests}
-use Rattle.std.specs.Int.{div_ceil}
-use Rattle.ob_base.specs.declared.access.Access.{Access}
-use Rattle.ob_base.specs.declared.config.Public.{Public}
+use Rattle.ob_exec.proofs.Words.{Access, Agrees, allowed, answer_events, ap, append-nil, AreHeld, arith, at, Bool, ChangesNothing, Columns, Condition, count_end, count_of, counted_after, div_ceil, EndsRows, Engine, Err, Event, false, flat_of, from, HaltsRows, header, headings_of, HoldsRows, HoldsSeen, Index, inl, is_access, is_late, is_of_access, IsFlat, IsSized, IsTrue, later_rests, length, limits_of, List, MaySelect, nat_tests, None, Ok, OpErr, PassCut, printed_places, Public, ReadsIn, refl, refusal_now, region_below, Result, RevState, rows_script, Seals, seals_join, seals_rests, Seen, Selected, Selection, selection, selection_script, selection_seen, SelectsFrom, Shown, slice_get, Slots, slots_of, Some, SourceToEnd, SourceToHalt, stated, StoreState, subst, sym, Tables, Vault, walk_end, Went, went_rests, where_at, World, world_of, ℕ, [], ◌++◌, ◌+◌, ◌-◌, ◌<◌, ◌∙◌, ◌≡◌, ◌≤◌}
 use Rattle.ob_base.specs.declared.schema.Table.{Table}
-use Rattle.ob_base.specs.declared.seen.Seen.{Seen}
-use Rattle.ob_base.specs.declared.shown.Shown.{Shown}
 use Rattle.ob_base.specs.declared.skeleton.Source.TheVariants.{Table as OneTable}
-use Rattle.ob_base.specs.Events.{Event, IsEmitted}
-use Rattle.ob_base.specs.Schemas.{Columns}
-use Rattle.ob_base.specs.Stored.{headings_of}
-use Rattle.ob_row.specs.Condition.{Condition}
-use Rattle.ob_row.specs.Slots.{Slots}
-use Rattle.ob_store.specs.State.{StoreState}
-use Rattle.ob_vault.specs.Tied.{ReadsIn}
-use Rattle.ob_store.specs.Calls.{ChangesNothing}
-use Rattle.ob_store.proofs.Steps.{later_rests}
-use Rattle.ob_vault.specs.State.{RevState, World}
-use Rattle.ob_vault.specs.Calls.{Seals, Went}
-use Rattle.ob_vault.specs.declared.vault.Vault.{Vault}
-use Rattle.ob_vault.specs.Places.{at}
-use Rattle.ob_vault.proofs.Runs.{seals_join, went_join}
-use Rattle.ob_vault.proofs.WordLemmas.{ready_rests, seals_rests, went_rests}
-use Rattle.ob_flat.specs.declared.fault.OpErr.{OpErr}
+use Rattle.ob_base.specs.Events.{IsEmitted}
+use Rattle.ob_vault.proofs.Runs.{went_join}
+use Rattle.ob_vault.proofs.WordLemmas.{ready_rests}
 use Rattle.ob_flat.specs.declared.flat.Flat.{Flat}
-use Rattle.ob_flat.specs.Flats.{IsFlat, IsSized, Represents}
-use Rattle.ob_emit.specs.Emitting.{AreColumns, header}
+use Rattle.ob_flat.specs.Flats.{Represents}
+use Rattle.ob_emit.specs.Emitting.{AreColumns}
 use Rattle.ob_select.proofs.UntilLemmas.{until_from}
-use Rattle.ob_flat.specs.Passes.{PassCut, is_of_access}
 use Rattle.ob_flat.proofs.Resting.{represents_rests}
 use Rattle.ob_flat.proofs.Runs.{pass_after}
-use Rattle.ob_mean.specs.Conditions.{where_at}
-use Rattle.ob_mean.specs.Refusals.{listed, limits_of}
-use Rattle.ob_mean.proofs.EarlyLemmas.{allowed}
+use Rattle.ob_mean.specs.Refusals.{listed}
 use Rattle.ob_verdict.proofs.AcceptedProof.{places_fit}
-use Rattle.ob_mean.specs.Replay.{count_end, walk_end, is_access}
-use Rattle.ob_mean.specs.Step.{printed_places}
-use Rattle.ob_mean.specs.Verdict.{Tables, is_late}
 use Rattle.ob_sql.specs.declared.stmt.SelectRows.{SelectRows}
 use Rattle.ob_sql.specs.declared.stmt.Stmt.TheVariants.{SelectRows as RowsStmt}
-use Rattle.ob_verdict.specs.Outcomes.{refusal_now}
-use Rattle.ob_tables.specs.declared.engine.Engine.{Engine}
-use Rattle.ob_select.specs.declared.selecting.Selected.{Selected}
 use Rattle.ob_select.specs.declared.selecting.Selected.TheVariants.{Rows, Refused}
-use Rattle.ob_tables.specs.Agreeing.{Agrees, world_of, count_of}
-use Rattle.ob_tables.specs.Engines.{flat_of}
-use Rattle.ob_select.specs.Selecting.{HoldsSeen, MaySelect, Selection, SelectsFrom, SelectsToEnd, SelectsToHalt, EmitsSelected, answer_events, counted_after, from, padded_after, selection_seen, selection_script, walked_after}
-use Rattle.ob_exec.specs.Sources.{EmitsRows, EndsRows, HaltsRows, HoldsRows, ReadsMeant, SelectsRows, SourceToEnd, SourceToHalt, rows_script, rows_skeleton, selection, slots_of, stated}
-use Rattle.ob_tables.specs.Telling.{AreHeld}
-use Rattle.ob_oram.specs.declared.index.Index.{Index}
+use Rattle.ob_select.specs.Selecting.{SelectsToEnd, SelectsToHalt, EmitsSelected, padded_after, walked_after}
+use Rattle.ob_exec.specs.Sources.{EmitsRows, ReadsMeant, SelectsRows, rows_skeleton}
 use Rattle.ob_exec.proofs.RowsOfTable.{capacity_of, count_of_table, rows_of_held, schema_of, script_of_table, shape_of, slots_held, walk_of_table}
 use Rattle.ob_exec.proofs.RowsStated.{ends_stated, may_stated}
-use Rattle.ob_tables.proofs.TableLemmas.{flat_kept, region_below}
+use Rattle.ob_tables.proofs.TableLemmas.{flat_kept}
 use Rattle.ob_tables.proofs.SourceColumns.{listed_few}
 
 pub not_late : (m : ℕ) → is_late m ≡ false → m < 9223372036854775808

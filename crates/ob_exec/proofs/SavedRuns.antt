@@ -1,142 +1,75 @@
 -- A statement that changes tables, and the saving of them behind it.
-use Rattle.std.proofs.Common.{◌≡◌, ◌⊎◌, inl, inr, ℕ, ◌+◌, ◌-◌, ◌^◌, ◌<◌, ◌≤◌, ◌%◌, ◌++◌, Bool, true, false, List, [], ◌∷◌, length, take, Option, None, Some, Result, Ok, Err, refl, sym, ◌∙◌, ap, subst, arith, append-nil, append_assoc, length-append}
-use Rattle.std.proofs.lemmas.Bool.Decides.{nat_tests}
+use Rattle.ob_exec.proofs.Words.{Access, accessed, Agrees, ap, append-nil, append_assoc, AreDraws, arith, Bool, by_fault, Calm, changes_tables, ChangesFlat, count_of, Cut, Draws, early_held, ended_at, Engine, Err, false, headings_of, Index, inl, inr, is_access, is_fault, is_late, is_refused, is_saved, is_store_fault, IsFree, IsNotTampered, IsTrue, KeeperFault, KeeperState, KeySet, Later, Lawful, left_by, length, length-append, Lie, List, list_any, nat_le, nat_tests, None, none_before, of_other, Ok, Opens, Option, Outcome, outcome_end, Public, ReadsIn, ReadsTrue, refl, Refusal, refusal_now, RefusedEarly, Result, RevState, run_script, RunStop, SavesTables, SavingCause, script, seals_join, Seen, SinkFault, Skeleton, skeleton, Some, StashFull, Stmt, StoreState, subst, sym, Tables, take, true, Whole, whole_script, World, world_of, ℕ, [], ◌++◌, ◌+◌, ◌-◌, ◌<◌, ◌^◌, ◌||◌, ◌∙◌, ◌∷◌, ◌≡◌, ◌≤◌, ◌⊎◌}
+use Rattle.std.proofs.Common.{◌%◌}
 use Rattle.std.proofs.lemmas.List.{take_at}
-use Rattle.std.specs.List.{list_any}
-use Rattle.std.specs.Prelude.{IsTrue, ◌||◌, nat_le}
 use Rattle.ob_base.specs.Accesses.{drop_script, make_at, makes, write_at, writes}
 use Rattle.ob_base.specs.Counts.{Rises}
 use Rattle.ob_base.specs.Lists.{each}
-use Rattle.ob_base.specs.Refusals.{is_store_fault}
-use Rattle.ob_base.specs.Stored.{headings_of}
-use Rattle.ob_base.specs.declared.access.Access.{Access}
 use Rattle.ob_base.specs.declared.access.Access.TheVariants.{Make}
-use Rattle.ob_base.specs.declared.config.Public.{Public}
-use Rattle.ob_base.specs.declared.refusal.Refusal.{Refusal}
 use Rattle.ob_base.specs.declared.refusal.Refusal.TheVariants as Refusals
-use Rattle.ob_base.specs.declared.seen.End.TheVariants.{Whole, Cut}
-use Rattle.ob_base.specs.declared.seen.Seen.{Seen}
-use Rattle.ob_base.specs.declared.skeleton.Skeleton.{Skeleton}
 use Rattle.ob_mean.proofs.FlatLemmas.{no_public_access}
 use Rattle.ob_mean.specs.Flats.{AreFlat}
-use Rattle.ob_mean.specs.Lawful.{Lawful, height_at}
-use Rattle.ob_mean.specs.Replay.{draws_taken, is_access}
+use Rattle.ob_mean.specs.Lawful.{height_at}
+use Rattle.ob_mean.specs.Replay.{draws_taken}
 use Rattle.ob_mean.specs.Batches.{settle_all}
-use Rattle.ob_mean.specs.Verdict.{Draws, Tables, accessed, ended as seen_to, is_late, seen}
-use Rattle.ob_oram.specs.declared.index.Index.{Index}
-use Rattle.ob_reopen.specs.Keepers.{KeeperState}
+use Rattle.ob_mean.specs.Verdict.{ended as seen_to, seen}
 use Rattle.ob_script.proofs.Numbers.{length-create_part}
 use Rattle.ob_script.proofs.SavedParts.{next_saved, script_saved}
 use Rattle.ob_script.specs.Parts.{closing_part}
-use Rattle.ob_script.specs.Saved.{ChangesFlat, left_by, run_next, run_script, saved_public, whole_run}
-use Rattle.ob_script.specs.Script.{changes_tables, closing_behind, is_saved, save_part, script, whole_script}
+use Rattle.ob_script.specs.Saved.{run_next, saved_public, whole_run}
+use Rattle.ob_script.specs.Script.{closing_behind, save_part}
 use Rattle.ob_script.specs.Tables.{tables_after}
 use Rattle.ob_script.specs.Trace.{next}
 use Rattle.ob_seal.specs.Draws.{draw_of}
-use Rattle.ob_seal.specs.KeySet.{KeySet}
 use Rattle.ob_select.proofs.LieLemmas.{lie_before}
 use Rattle.ob_select.proofs.SelectRuns.{ends-more}
 use Rattle.ob_select.specs.Memory.{ends_with_make}
-use Rattle.ob_select.specs.Opening.{Opens, is_of_rows}
+use Rattle.ob_select.specs.Opening.{is_of_rows}
 use Rattle.ob_select.specs.Selecting.{AcceptsRows}
-use Rattle.ob_select.specs.Settings.{IsFree}
-use Rattle.ob_sql.specs.Skeleton.{skeleton}
-use Rattle.ob_sql.specs.declared.stmt.Stmt.{Stmt}
-use Rattle.ob_store.proofs.Steps.{later_trans, none_before, since_later}
-use Rattle.ob_store.specs.Runs.{Began, Later}
-use Rattle.ob_store.specs.State.{Lie, StoreState}
+use Rattle.ob_store.proofs.Steps.{later_trans, since_later}
+use Rattle.ob_store.specs.Runs.{Began}
 use Rattle.ob_tables.proofs.HeldLemmas.{held_plain}
 use Rattle.ob_tables.proofs.LawfulLemmas.{leaf_none}
 use Rattle.ob_tables.proofs.PlainLemmas.{IsPlain, none_stops}
-use Rattle.ob_tables.proofs.RunLemmas.{of_other}
 use Rattle.ob_tables.proofs.TableLemmas.{tables_flat}
-use Rattle.ob_tables.proofs.ToldLemmas.{cut_seen, early_held, refused_none}
-use Rattle.ob_tables.specs.Agreeing.{Agrees, AreDraws, count_of, high_of, opened_from, public_of, world_of}
+use Rattle.ob_tables.proofs.ToldLemmas.{cut_seen, refused_none}
+use Rattle.ob_tables.specs.Agreeing.{high_of, opened_from, public_of}
 use Rattle.ob_tables.specs.Closing.{next_closing}
 use Rattle.ob_tables.specs.Leaves.{MovesLeaves}
 use Rattle.ob_tables.specs.Refusals.{refused_end}
-use Rattle.ob_tables.specs.Running.{GoesOn, RefusedEarly, is_fault, outcome_end}
+use Rattle.ob_tables.specs.Running.{GoesOn}
 use Rattle.ob_tables.specs.Saving.{save_script}
 use Rattle.ob_tables.specs.Serving.{Means}
-use Rattle.ob_tables.specs.Telling.{IsNotTampered, Meant, ReadsTrue, Represents, is_refused, meant_script}
-use Rattle.ob_tables.specs.declared.engine.Engine.{Engine}
-use Rattle.ob_tables.specs.declared.stop.RunStop.{RunStop}
-use Rattle.ob_tables.specs.declared.stop.RunStop.TheVariants.{KeeperFault, NoMemory, SinkFault, StashFull, StoreFault, Tampered}
-use Rattle.ob_vault.proofs.Runs.{seals_join}
+use Rattle.ob_tables.specs.Telling.{Meant, Represents, meant_script}
+use Rattle.ob_tables.specs.declared.stop.RunStop.TheVariants.{NoMemory, StoreFault, Tampered}
 use Rattle.ob_vault.proofs.WorldSteps.{calm_none}
-use Rattle.ob_vault.specs.State.{RevState, Start, World}
-use Rattle.ob_vault.specs.Tied.{Calm, ReadsIn}
+use Rattle.ob_vault.specs.State.{Start}
 use Rattle.ob_verdict.proofs.SeenProof.{shows_kind_alone}
-use Rattle.ob_verdict.specs.Outcomes.{by_fault, refusal_now}
-use Rattle.ob_verdict.specs.declared.outcome.Outcome.{Outcome}
 use Rattle.ob_verdict.specs.declared.outcome.Outcome.TheVariants.{Created, Inserted, Changed, Deleted, Dropped, Rows, Refused}
 use Rattle.ob_exec.proofs.ChangedScripts.{changes_flat, changes_plain, closing_is, run_same, run_whole, saved_changes, saved_saves, whole_saved}
 use Rattle.ob_exec.proofs.FewAsked.{few_behind}
 use Rattle.ob_exec.proofs.Unread.{Unread, reads_back, unread_both, unread_closing, unread_drops, unread_first}
 use Rattle.ob_exec.proofs.Shares.{Share}
-use Rattle.ob_exec.specs.Behind.{ended_at}
 use Rattle.ob_exec.specs.Ran.{CarriedOut, CountsKeeper, LacksNumber, RanWhole, RunsOut, ServedCause, StopsWhere, WantsMemory, is_saved_behind}
-use Rattle.ob_exec.specs.Saving.{IsUsedUp, SavesTables, SavingCause}
+use Rattle.ob_exec.specs.Saving.{IsUsedUp}
 
 -- ---- how an answer ends that came to its end
 refusal_stays : (r : Refusal) (n m : ℕ) → refused_end r n ≡ Whole → refused_end r m ≡ Whole
 refusal_stays Refusals.StoreFault n m is = absurd (cc is)
-refusal_stays (Refusals.Syntax at) n m is = is
-refusal_stays Refusals.NoTable n m is = is
-refusal_stays Refusals.NameTaken n m is = is
-refusal_stays Refusals.NoColumn n m is = is
-refusal_stays Refusals.WrongType n m is = is
-refusal_stays Refusals.ValueRange n m is = is
-refusal_stays Refusals.Limit n m is = is
-refusal_stays Refusals.KeyRule n m is = is
-refusal_stays Refusals.JoinKey n m is = is
-refusal_stays Refusals.Duplicate n m is = is
-refusal_stays Refusals.Full n m is = is
-refusal_stays Refusals.TooManyGroups n m is = is
-refusal_stays Refusals.NotConsecutive n m is = is
-refusal_stays (Refusals.Overflow i) n m is = is
-refusal_stays Refusals.PadPassed n m is = is
-refusal_stays Refusals.KeyRange n m is = is
-refusal_stays Refusals.NeedsKey n m is = is
+refusal_stays other n m is = is
 
 end_stays : (outcome : Outcome) (n m : ℕ) → outcome_end outcome n ≡ Whole → outcome_end outcome m ≡ Whole
 end_stays (Refused r) n m is = refusal_stays r n m is
-end_stays Created n m is = is
-end_stays Inserted n m is = is
-end_stays (Changed k) n m is = is
-end_stays (Deleted k) n m is = is
-end_stays Dropped n m is = is
-end_stays (Rows k) n m is = is
+end_stays other n m is = is
 
 -- the store didn't fail
 refusal_own : (r : Refusal) (n : ℕ) → refused_end r n ≡ Whole → is_store_fault r ≡ false
 refusal_own Refusals.StoreFault n is = absurd (cc is)
-refusal_own (Refusals.Syntax at) n is = refl
-refusal_own Refusals.NoTable n is = refl
-refusal_own Refusals.NameTaken n is = refl
-refusal_own Refusals.NoColumn n is = refl
-refusal_own Refusals.WrongType n is = refl
-refusal_own Refusals.ValueRange n is = refl
-refusal_own Refusals.Limit n is = refl
-refusal_own Refusals.KeyRule n is = refl
-refusal_own Refusals.JoinKey n is = refl
-refusal_own Refusals.Duplicate n is = refl
-refusal_own Refusals.Full n is = refl
-refusal_own Refusals.TooManyGroups n is = refl
-refusal_own Refusals.NotConsecutive n is = refl
-refusal_own (Refusals.Overflow i) n is = refl
-refusal_own Refusals.PadPassed n is = refl
-refusal_own Refusals.KeyRange n is = refl
-refusal_own Refusals.NeedsKey n is = refl
+refusal_own other n is = refl
 
 pub end_own : (outcome : Outcome) (n : ℕ) → outcome_end outcome n ≡ Whole → is_fault outcome ≡ false
 end_own (Refused r) n is = refusal_own r n is
-end_own Created n is = refl
-end_own Inserted n is = refl
-end_own (Changed k) n is = refl
-end_own (Deleted k) n is = refl
-end_own Dropped n is = refl
-end_own (Rows k) n is = refl
+end_own other n is = refl
 
 -- what holds of an answer then
 pub whole_of : (failed : Bool) (cut whole : Type 0) → failed ≡ false → by_fault failed cut whole → whole
@@ -438,41 +371,31 @@ module _ {R : Type 0} (state : R → RevState) (stmt : Stmt) (owed : List Stmt) 
     served StoreFault cause = (store_cause cause.0, calm_cut)
     served NoMemory cause = (cause.1 ∙ faults_mid, calm_cut)
     served KeeperFault cause = (cause.0.faults ∙ faults_mid, calm_cut)
-    served SinkFault cause = absurd cause
-    served StashFull cause = absurd cause
-    served (Tampered q x) cause = absurd cause
+    served other cause = absurd cause
 
     counted : (r : RunStop) → SavingCause r mid s1 t k0 k1 → CountsKeeper (Err r) k0 k1
     counted StoreFault cause = ap (λ (k : KeeperState). k.faults) cause.1
     counted NoMemory cause = ap (λ (k : KeeperState). k.faults) cause.2
     counted KeeperFault cause = cause.1
-    counted SinkFault cause = absurd cause
-    counted StashFull cause = absurd cause
-    counted (Tampered q x) cause = absurd cause
+    counted other cause = absurd cause
 
     where_stopped : (r : RunStop) → SavingCause r mid s1 t k0 k1 → StopsWhere p sk (Err r)
     where_stopped StoreFault cause = inr saved
     where_stopped NoMemory cause = tt
     where_stopped KeeperFault cause = saved
-    where_stopped SinkFault cause = absurd cause
-    where_stopped StashFull cause = absurd cause
-    where_stopped (Tampered q x) cause = absurd cause
+    where_stopped other cause = absurd cause
 
     honest_stop : (r : RunStop) → SavingCause r mid s1 t k0 k1 → IsNotTampered r
-    honest_stop StoreFault cause = refl
-    honest_stop NoMemory cause = refl
-    honest_stop KeeperFault cause = refl
     honest_stop SinkFault cause = absurd cause
     honest_stop StashFull cause = absurd cause
     honest_stop (Tampered q x) cause = absurd cause
+    honest_stop other cause = refl
 
     plain_stop : (r : RunStop) → SavingCause r mid s1 t k0 k1 → IsPlain r
-    plain_stop StoreFault cause = tt
-    plain_stop NoMemory cause = tt
-    plain_stop KeeperFault cause = tt
     plain_stop SinkFault cause = absurd cause
     plain_stop StashFull cause = absurd cause
     plain_stop (Tampered q x) cause = absurd cause
+    plain_stop other cause = tt
 
     -- ---- rows that were open
     opened_cut : Opens (script p sk now) (high_of old) (high_of last)

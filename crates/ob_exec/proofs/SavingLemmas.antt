@@ -1,41 +1,31 @@
 -- An engine's tables are saved by a keeper, whatever fails.
-use Rattle.std.proofs.Common.{◌≡◌, ◌⊎◌, inl, inr, ℕ, ◌≤◌, Bool, true, false, List, [], ◌++◌, length, Option, Some, Ok, Err, refl, sym, ◌∙◌, ap, subst, arith, append-nil, append_assoc, length-append}
+use Rattle.ob_exec.proofs.Words.{Access, Agrees, ap, append-nil, append_assoc, arith, Bool, Calm, ChangesNothing, Engine, Err, false, inl, inr, IsFree, KeeperFault, KeeperState, Later, length, length-append, List, none, Ok, Option, others_of, Public, ReadsIn, refl, RevState, SavesTables, SavingCause, Seals, seals_join, Some, StoreState, subst, sym, Tables, true, Went, went_rests, world_of, ℕ, [], ◌++◌, ◌∙◌, ◌≡◌, ◌≤◌, ◌⊎◌}
 use Rattle.ob_base.specs.Accesses.{drop_script, make_at}
 use Rattle.ob_base.specs.Counts.{Rises}
-use Rattle.ob_base.specs.declared.access.Access.{Access}
-use Rattle.ob_base.specs.declared.config.Public.{Public}
 use Rattle.ob_base.specs.declared.fault.Failed.{Failed}
-use Rattle.ob_base.specs.declared.mark.Mark.{Mark}
-use Rattle.ob_mean.specs.Verdict.{Tables}
+use Rattle.ob_reopen.specs.declared.mark.Mark.{Mark}
 use Rattle.ob_reopen.specs.Closed.{ClosingCause, is_used_up}
-use Rattle.ob_reopen.specs.Keepers.{KeeperState, SetsMark}
+use Rattle.ob_reopen.specs.Keepers.{SetsMark}
 use Rattle.ob_reopen.specs.Resting.{AcceptsClosings, by_name}
 use Rattle.ob_reopen.specs.declared.fault.CloseErr.{CloseErr}
 use Rattle.ob_reopen.specs.declared.fault.CloseErr.TheVariants as CloseErrs
 use Rattle.ob_script.proofs.Numbers.{length-create_part}
 use Rattle.ob_script.specs.Saved.{saved_public}
 use Rattle.ob_select.specs.Selecting.{AcceptsRows}
-use Rattle.ob_select.specs.Settings.{IsFree}
 use Rattle.ob_store.proofs.Steps.{later_trans}
-use Rattle.ob_store.specs.Calls.{ChangesNothing, Syncs}
-use Rattle.ob_store.specs.Runs.{Began, Later}
-use Rattle.ob_store.specs.State.{KeptRegion, StoreState}
+use Rattle.ob_store.specs.Calls.{Syncs}
+use Rattle.ob_store.specs.Runs.{Began}
+use Rattle.ob_store.specs.State.{KeptRegion}
 use Rattle.ob_tables.proofs.HeldLemmas.{held_kept}
 use Rattle.ob_tables.proofs.TableLemmas.{tables_kept}
-use Rattle.ob_tables.specs.Agreeing.{Agrees, draws_of, engine_keys, engine_start, has_ended, high_of, indexes_of, opened_from, public_of, replaced_of, seen_of, world_of}
+use Rattle.ob_tables.specs.Agreeing.{draws_of, engine_keys, engine_start, has_ended, high_of, indexes_of, opened_from, public_of, replaced_of, seen_of}
 use Rattle.ob_tables.specs.Closing.{next_closing}
-use Rattle.ob_tables.specs.Engines.{IsBeside, IsTableRegion, others_of}
+use Rattle.ob_tables.specs.Engines.{IsBeside, IsTableRegion}
 use Rattle.ob_tables.specs.Saving.{IsSaved, RestsIn, SavesEngine, SettlesEngine, Waits, WaitsAt, save_script}
 use Rattle.ob_tables.specs.Telling.{Represents}
-use Rattle.ob_tables.specs.declared.engine.Engine.{Engine}
-use Rattle.ob_tables.specs.declared.stop.RunStop.TheVariants.{KeeperFault, StoreFault}
-use Rattle.ob_vault.proofs.Runs.{seals_join}
-use Rattle.ob_vault.proofs.WordLemmas.{went_rests}
+use Rattle.ob_tables.specs.declared.stop.RunStop.TheVariants.{StoreFault}
 use Rattle.ob_vault.proofs.WorldSteps.{seals_unasked}
-use Rattle.ob_vault.specs.Calls.{Seals, Went, none}
-use Rattle.ob_vault.specs.State.{RevState}
-use Rattle.ob_vault.specs.Tied.{Calm, ReadsIn}
-use Rattle.ob_exec.specs.Saving.{HoldsSaved, SavesTables, SavingCause, saving_stop}
+use Rattle.ob_exec.specs.Saving.{HoldsSaved, saving_stop}
 
 -- ---- a store that waits until all lies where a crash leaves it
 synced : (s t : StoreState) → Syncs s t → t.faults ≡ s.faults → ChangesNothing s t

@@ -1,32 +1,20 @@
 -- The engine's own share of a statement, but for what it emits: of one that is served by itself, and of a batch.
-use Rattle.std.proofs.Common.{◌≡◌, ℕ, true, false, List, [], Result, Err, refl, ap, subst}
-use Rattle.std.specs.Prelude.{IsSome}
-use Rattle.ob_base.specs.Events.{Event}
+use Rattle.ob_exec.proofs.Words.{ap, AreDraws, changes_tables, count_of, Create, Delete, Draws, Engine, Err, Event, false, HasHalted, Insert, IsSome, Lawful, List, Outcome, refl, refusal_now, RefusedEarly, Result, RevState, RunStop, Serves, SinkFault, skeleton, StashFull, Stmt, StoreState, subst, true, Update, world_of, ℕ, [], ◌≡◌}
 use Rattle.ob_mean.proofs.BatchLemmas.{begins}
 use Rattle.ob_mean.specs.Batches.{inserts_into}
-use Rattle.ob_mean.specs.Lawful.{Lawful, selects_rows}
-use Rattle.ob_mean.specs.Verdict.{next_draw, Draws}
-use Rattle.ob_script.specs.Script.{changes_tables}
-use Rattle.ob_select.specs.Memory.{HasHalted}
-use Rattle.ob_sql.specs.Skeleton.{skeleton}
-use Rattle.ob_sql.specs.declared.stmt.Stmt.{Stmt}
-use Rattle.ob_sql.specs.declared.stmt.Stmt.TheVariants.{Create, Insert, Update, Delete, Drop as DropTable, SelectRows as RowsStmt, SelectTotals as TotalsStmt}
-use Rattle.ob_store.specs.State.{StoreState}
+use Rattle.ob_mean.specs.Lawful.{selects_rows}
+use Rattle.ob_mean.specs.Verdict.{next_draw}
+use Rattle.ob_sql.specs.declared.stmt.Stmt.TheVariants.{Drop as DropTable, SelectRows as RowsStmt, SelectTotals as TotalsStmt}
 use Rattle.ob_tables.proofs.LawfulLemmas.{lawful_now}
 use Rattle.ob_tables.proofs.ToldLemmas.{refused_none}
-use Rattle.ob_tables.specs.Agreeing.{AreDraws, count_of, world_of}
 use Rattle.ob_tables.specs.Indexed.{FillsStash}
 use Rattle.ob_tables.specs.Memory.{LacksMemory}
 use Rattle.ob_tables.specs.Batch.{AreBatch, ServesBatch}
-use Rattle.ob_tables.specs.Running.{IsSilent, RanStatement, RefusedEarly, stops_access}
-use Rattle.ob_tables.specs.Serving.{Means, Serves}
+use Rattle.ob_tables.specs.Running.{IsSilent, RanStatement, stops_access}
+use Rattle.ob_tables.specs.Serving.{Means}
 use Rattle.ob_tables.specs.Telling.{KeepsSealed}
-use Rattle.ob_tables.specs.declared.engine.Engine.{Engine}
-use Rattle.ob_tables.specs.declared.stop.RunStop.{RunStop}
-use Rattle.ob_tables.specs.declared.stop.RunStop.TheVariants.{NoMemory, SinkFault, StashFull}
-use Rattle.ob_vault.specs.State.{RevState}
-use Rattle.ob_verdict.specs.Outcomes.{MayEmit, refusal_now}
-use Rattle.ob_verdict.specs.declared.outcome.Outcome.{Outcome}
+use Rattle.ob_tables.specs.declared.stop.RunStop.TheVariants.{NoMemory}
+use Rattle.ob_verdict.specs.Outcomes.{MayEmit}
 use Rattle.ob_exec.specs.Ran.{ShowsNothing}
 
 pub record Share {R : Type 0} (state : R → RevState) (stmt : Stmt) (owed : List Stmt) (Halts : Type 0) (result : Result Outcome RunStop) (old : Engine R) (s : StoreState) (new : Engine R) (t : StoreState) : Type 0 where
@@ -58,13 +46,8 @@ share_alone state grew cut faults stmt result old s new t out_old out_new serves
 
 -- a batch of INSERTs, of which no rows are counted
 inserts_plain : (stmt : Stmt) → IsSome (inserts_into (skeleton stmt)) → selects_rows stmt ≡ false
-inserts_plain (Create table columns capacity shape) inserts = absurd (cc inserts)
 inserts_plain (Insert table columns values) inserts = refl
-inserts_plain (Update table sets search) inserts = absurd (cc inserts)
-inserts_plain (Delete table search) inserts = absurd (cc inserts)
-inserts_plain (DropTable table) inserts = absurd (cc inserts)
-inserts_plain (RowsStmt q) inserts = absurd (cc inserts)
-inserts_plain (TotalsStmt q) inserts = absurd (cc inserts)
+inserts_plain other inserts = absurd (cc inserts)
 
 pub share_batch : {R : Type 0} (state : R → RevState) (first : Stmt) (rest : List Stmt) (result : Result Outcome RunStop) (outcomes : List Outcome) (old : Engine R) (s : StoreState) (new : Engine R) (t : StoreState)
     → AreBatch old.public (count_of old s) first rest → ServesBatch state first rest result outcomes old s new t → Share state first rest ⊥ result old s new t

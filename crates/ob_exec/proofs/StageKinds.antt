@@ -1,44 +1,22 @@
 -- The statements of a flight, of whichever kind, stand as a flight asks.
-use Rattle.std.proofs.Common.{◌≡◌, ◌≤◌, ℕ, Bool, true, false, List, Option, Some, None, refl, sym, ◌∙◌, ap, subst, inl, ◌++◌}
-use Rattle.std.specs.Prelude.{is_some, if◌then◌else◌, IfSome}
-use Rattle.ob_base.specs.Events.{Event}
-use Rattle.ob_base.specs.declared.seen.End.TheVariants.{Cut, Whole}
-use Rattle.ob_base.specs.declared.seen.Seen.{Seen}
-use Rattle.ob_flat.specs.Passes.{is_of_access}
+use Rattle.ob_exec.proofs.Words.{answer_labels, ap, Bool, count_end, Cut, Draws, Emits, Emitted, Event, false, flight_kind, flight_progress, HoldsSeen, IfSome, if◌then◌else◌, Index, inl, is_cut, is_of_access, is_some, IsMeant, IsUnfit, List, None, OpErr, Option, Outcome, Partly, refl, RowsAt, Seen, selection_seen, Served, skeleton, Slots, Some, Stage, subst, sym, Tables, true, verdict, Whole, World, ℕ, ◌++◌, ◌∙◌, ◌≡◌, ◌≤◌}
 use Rattle.ob_flat.specs.Flats.{Represents}
-use Rattle.ob_flat.specs.declared.fault.OpErr.{OpErr}
 use Rattle.ob_flat.specs.declared.fault.OpErr.TheVariants as OpErrs
-use Rattle.ob_mean.specs.Batches.{is_cut}
-use Rattle.ob_mean.specs.Verdict.{Draws, Tables, verdict}
-use Rattle.ob_oram.specs.declared.index.Index.{Index}
-use Rattle.ob_row.specs.Slots.{Slots}
-use Rattle.ob_script.specs.Trace.{Served}
-use Rattle.ob_select.specs.Selecting.{HoldsSeen, selection_seen}
-use Rattle.ob_stages.specs.Flying.{FlightHalts, FlightHolds, MayFly, flight_acts, flight_progress, flight_served}
+use Rattle.ob_stages.specs.Flying.{FlightHalts, FlightHolds, MayFly, flight_acts, flight_served}
 use Rattle.ob_stages.specs.Reading.{end_now}
 use Rattle.ob_stages.specs.Refusing.{refused_progress}
 use Rattle.ob_stages.specs.RowsHolds.{Holds, HoldsAt}
-use Rattle.ob_stages.specs.RowsStates.{MayServe, RowsAt, is_over, rows_at}
+use Rattle.ob_stages.specs.RowsStates.{MayServe, is_over, rows_at}
 use Rattle.ob_stages.proofs.RowsKnown.{rows_end, rows_meant, rows_meant_cut, rows_way, rows_within}
 use Rattle.ob_stages.proofs.RowsLeft.{rows_at_make, rows_left}
 use Rattle.ob_stages.specs.declared.flight.Flight.{Flight}
 use Rattle.ob_stages.specs.declared.flight.Flight.TheVariants.{Refused, Rows, Totals, Groups}
-use Rattle.ob_stages.specs.declared.rows.Stage.{Stage}
 use Rattle.ob_stages.specs.declared.rows.Stage.TheVariants as Stages
-use Rattle.ob_vault.specs.State.{World}
 use Rattle.ob_vault.specs.Words.{IsHonest}
-use Rattle.ob_exec.proofs.FlightStage.{closed_of}
-use Rattle.ob_verdict.specs.Outcomes.{Emits, Partly}
-use Rattle.ob_verdict.specs.declared.outcome.Outcome.{Outcome}
+use Rattle.ob_exec.proofs.FlightStage.{closed_of, HoldNow, IsSet, IsStage, shown_of, LacksHere}
 use Rattle.ob_verdict.specs.declared.outcome.Outcome.TheVariants as AnOutcome
-use Rattle.ob_exec.specs.Boarding.{flight_kind}
-use Rattle.ob_exec.specs.InFlight.{IsFlown, IsMeant}
-use Rattle.ob_tables.specs.Telling.{Emitted, answer_labels}
-use Rattle.ob_vault.specs.Tied.{IsUnfit}
-use Rattle.ob_mean.specs.Replay.{count_end}
-use Rattle.ob_sql.specs.Skeleton.{skeleton}
+use Rattle.ob_exec.specs.InFlight.{IsFlown}
 use Rattle.ob_exec.specs.Sources.{rows_skeleton}
-use Rattle.ob_exec.proofs.FlightStage.{HoldNow, IsSet, IsStage, shown_of, LacksHere}
 use Rattle.ob_exec.proofs.StageReading.{cut_now, reading_emits, reading_emitted, reading_halted, reading_honest, reading_means, reading_memory, reading_partly, reading_stands, reading_stays, reading_told}
 use Rattle.ob_exec.proofs.StageRefused.{emits_refused, emitted_refused, meant_refused, partly_refused, stands_refused, told_refused}
 use Rattle.ob_exec.proofs.StageRows.{rows_emit, rows_stand}
@@ -58,13 +36,8 @@ meant_cut g kept events w is failed slots held honest = rows_meant_cut g kept ev
 -- a region that it made is gone once it has ended
 rows_gone : (g : RowsAt) (kept : List (List ℕ)) (events : List Event) (w : World) (stage : Stage) → (is_over stage ≡ false → g.outcome ≡ None) → HoldsAt stage g kept events w
     → is_some g.outcome ≡ true → (q : ℕ) → g.region ≡ Some q → w.vault.revs.live q ≡ None
-rows_gone g kept events w (Stages.Count u) unended holds over q made = absurd (let none = ap is_some (unended refl) in cc (none, over))
-rows_gone g kept events w Stages.Make unended holds over q made = absurd (let none = ap is_some (unended refl) in cc (none, over))
-rows_gone g kept events w (Stages.Read pass u seen) unended holds over q made = absurd (let none = ap is_some (unended refl) in cc (none, over))
-rows_gone g kept events w (Stages.Write pass x) unended holds over q made = absurd (let none = ap is_some (unended refl) in cc (none, over))
-rows_gone g kept events w (Stages.Emit x) unended holds over q made = absurd (let none = ap is_some (unended refl) in cc (none, over))
-rows_gone g kept events w Stages.Discard unended holds over q made = absurd (let none = ap is_some (unended refl) in cc (none, over))
 rows_gone g kept events w Stages.Over unended holds over q made = holds.0.gone q made
+rows_gone g kept events w other unended holds over q made = absurd (let none = ap is_some (unended refl) in cc (none, over))
 
 cut_end : (failed : Bool) (n : ℕ) → is_cut (if failed then Cut n else Whole) ≡ failed
 cut_end true n = refl
@@ -165,10 +138,8 @@ module _ (m : ℕ) where
   stage_ends (Groups f) kept events w is failed = cut_reading f.reading.failed f.reading.asked failed
 
   stage_gone : (f : Flight) (kept : List (List ℕ)) (events : List Event) (w : World) (is : FlightHolds f kept events w) (over : is_some (flight_progress f).outcome ≡ true) (q : ℕ) (made : (flight_progress f).region ≡ Some q) → w.vault.revs.live q ≡ None
-  stage_gone (Refused f) kept events w is over q made = absurd (cc made)
   stage_gone (Rows f) kept events w is over q made = rows_gone (rows_at f) kept events w (rows_at f).stage is.placed.unended is.at over q made
-  stage_gone (Totals f) kept events w is over q made = absurd (cc made)
-  stage_gone (Groups f) kept events w is over q made = absurd (cc made)
+  stage_gone other kept events w is over q made = absurd (cc made)
 
   pub flight_stage : IsStage flight_kind m
   flight_stage = record {

@@ -1,53 +1,25 @@
 -- A SELECT of totals in flight.
-use Rattle.std.proofs.Common.{◌≡◌, ◌⊎◌, ◌≤◌, ◌+◌, ◌++◌, ◌==◌, ◌||◌, ℕ, Bool, true, false, List, [], ◌∷◌, length, Option, Some, None, Ok, refl, sym, ◌∙◌, ap, subst, inl, inr, arith}
-use Rattle.std.specs.Prelude.{IsSome}
-use Rattle.std.specs.Option.{option_map_or}
+use Rattle.ob_exec.proofs.Words.{Answer, answer_labels, ap, append-nil, arith, Bool, by_fault, Columns, count_end, Cut, cut_at, Draws, early_held, Emits, Emitted, End, Event, false, Heading, heading_found, headings_of, held_at, Index, inl, inr, is_access, is_cut, is_fault, is_of_access, IsSome, IsUnfit, Lawful, length, length-count_part, List, None, Ok, OpErr, Option, option_map_or, Outcome, outcome_end, Partly, partly_none, Prints, Public, refl, Refusal, refusal_now, RefusedEarly, Seen, skeleton, Some, Static, Stmt, subst, sym, Tables, true, Unfinished, verdict, Whole, whole_script, World, ℕ, [], ◌++◌, ◌+◌, ◌||◌, ◌∙◌, ◌∷◌, ◌≡◌, ◌≤◌, ◌⊎◌}
+use Rattle.std.proofs.Common.{◌==◌}
 use Rattle.std.proofs.lemmas.Bool.{eq-eqb}
-use Rattle.std.proofs.lemmas.List.{append-nil, drop_all}
-use Rattle.ob_base.specs.Events.{Event}
-use Rattle.ob_base.specs.Schemas.{Columns}
-use Rattle.ob_base.specs.Stored.{headings_of}
-use Rattle.ob_base.specs.declared.config.Public.{Public}
-use Rattle.ob_base.specs.declared.refusal.Refusal.{Refusal}
+use Rattle.std.proofs.lemmas.List.{drop_all}
 use Rattle.ob_base.specs.declared.refusal.Refusal.TheVariants.{StoreFault}
-use Rattle.ob_base.specs.declared.schema.Heading.{Heading}
-use Rattle.ob_base.specs.declared.seen.End.{End}
-use Rattle.ob_base.specs.declared.seen.End.TheVariants.{Static, Whole, Cut}
-use Rattle.ob_base.specs.declared.seen.Seen.{Seen}
 use Rattle.ob_flat.specs.Emission.{SlotsToEnd}
 use Rattle.ob_flat.specs.Flats.{Represents}
-use Rattle.ob_flat.specs.declared.fault.OpErr.{OpErr}
 use Rattle.ob_flat.specs.declared.fault.OpErr.TheVariants as OpErrs
 use Rattle.ob_flat.specs.declared.flat.Flat.{Flat}
-use Rattle.ob_flat.specs.Passes.{is_of_access}
-use Rattle.ob_mean.specs.Batches.{is_cut}
-use Rattle.ob_mean.specs.Lawful.{CutUpTo, EndsUncounted, Lawful}
-use Rattle.ob_mean.specs.Prints.{Prints, Unfinished}
-use Rattle.ob_mean.specs.Replay.{count_end, cut_at, is_access}
-use Rattle.ob_mean.specs.Verdict.{Draws, Tables, ended, seen as seen_by, verdict}
-use Rattle.ob_mean.specs.declared.answer.Answer.{Answer}
+use Rattle.ob_mean.specs.Lawful.{CutUpTo, EndsUncounted}
+use Rattle.ob_mean.specs.Verdict.{ended, seen as seen_by}
 use Rattle.ob_names.specs.Names.{columns_at}
-use Rattle.ob_oram.specs.declared.index.Index.{Index}
-use Rattle.ob_script.specs.Script.{whole_script}
-use Rattle.ob_script.proofs.Lengths.{length-count_part}
-use Rattle.ob_sql.specs.Skeleton.{skeleton}
-use Rattle.ob_sql.specs.declared.stmt.Stmt.{Stmt}
-use Rattle.ob_tables.specs.Running.{RefusedEarly, is_fault, outcome_end}
-use Rattle.ob_tables.specs.Telling.{Emitted, answer_labels}
-use Rattle.ob_tables.proofs.FoundLemmas.{heading_found}
-use Rattle.ob_tables.proofs.HeldLemmas.{Beside, held_at}
-use Rattle.ob_tables.proofs.ToldLemmas.{cut_seen, early_held, started_seen}
-use Rattle.ob_vault.specs.State.{World}
-use Rattle.ob_vault.specs.Tied.{IsUnfit}
-use Rattle.ob_verdict.specs.Outcomes.{Emits, Partly, by_fault, outcome_of, refusal_now}
-use Rattle.ob_verdict.specs.declared.outcome.Outcome.{Outcome}
+use Rattle.ob_tables.proofs.HeldLemmas.{Beside}
+use Rattle.ob_tables.proofs.ToldLemmas.{cut_seen, started_seen}
+use Rattle.ob_verdict.specs.Outcomes.{outcome_of}
 use Rattle.ob_verdict.specs.declared.outcome.Outcome.TheVariants.{Refused}
 use Rattle.ob_stages.specs.declared.reading.Reading.{Reading}
 use Rattle.ob_stages.specs.Reading.{Answered, EndsAs, EndsLater, HaltsTotals, IsReading, MayRead, end_now, is_over, places_of, public_of, reading_progress, stmt_of}
 use Rattle.ob_stages.specs.Totalling.{IsTotalled, labels_at, totalled_answer}
 use Rattle.ob_exec.specs.InFlight as F
 use Rattle.ob_exec.proofs.FlightStage.{HasTable, HoldNow, IsSet, LacksHere, closed_of, more_asked, shown_of, whole_of}
-use Rattle.ob_stages.proofs.TotalsLemmas.{partly_none}
 use Rattle.ob_exec.proofs.TotalsServed.{unfinished_none, verdict_is}
 
 -- ---- how it ends

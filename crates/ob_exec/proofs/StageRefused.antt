@@ -1,31 +1,15 @@
 -- A statement in flight that was refused before any access.
-use Rattle.std.proofs.Common.{◌≡◌, ℕ, List, [], Option, Some, None, Ok, refl, sym, ◌∙◌, ap, subst}
-use Rattle.std.specs.Prelude.{IfSome}
-use Rattle.ob_base.specs.Events.{Event}
-use Rattle.ob_base.specs.Refusals.{is_store_fault}
-use Rattle.ob_base.specs.declared.config.Public.{Public}
-use Rattle.ob_base.specs.declared.refusal.Refusal.{Refusal}
-use Rattle.ob_base.specs.declared.seen.End.TheVariants.{Static}
-use Rattle.ob_mean.specs.Prints.{Prints}
-use Rattle.ob_mean.specs.Step.{accepted_answer, answered}
-use Rattle.ob_mean.specs.Verdict.{Draws, Tables, database, ended, seen as seen_by, verdict}
-use Rattle.ob_mean.specs.declared.answer.Answer.{Answer}
+use Rattle.ob_exec.proofs.Words.{Answer, answer_labels, answered, ap, database, Draws, early_held, Emits, Emitted, Event, IfSome, Index, is_fault, is_store_fault, IsMeant, List, None, of_other, Ok, Option, Outcome, outcome_end, Partly, partly_none, Prints, Public, refl, Refusal, refusal_now, RefusedEarly, Some, Static, Stmt, subst, sym, Tables, verdict, World, ℕ, [], ◌∙◌, ◌≡◌}
+use Rattle.ob_mean.specs.Step.{accepted_answer}
+use Rattle.ob_mean.specs.Verdict.{ended, seen as seen_by}
 use Rattle.ob_mean.specs.declared.answer.Answer.TheVariants as A
 use Rattle.ob_mean.proofs.VerdictLemmas.{refused_early, seen_early}
-use Rattle.ob_oram.specs.declared.index.Index.{Index}
-use Rattle.ob_sql.specs.declared.stmt.Stmt.{Stmt}
-use Rattle.ob_tables.specs.Running.{RefusedEarly, is_fault, outcome_end}
-use Rattle.ob_tables.specs.Telling.{Emitted, answer_labels}
 use Rattle.ob_tables.proofs.LawfulLemmas.{lawful_refused}
-use Rattle.ob_tables.proofs.RunLemmas.{of_other}
-use Rattle.ob_tables.proofs.ToldLemmas.{early_held, early_is}
-use Rattle.ob_vault.specs.State.{World}
-use Rattle.ob_verdict.specs.Outcomes.{Emits, Partly, outcome_of, refusal_now}
-use Rattle.ob_verdict.specs.declared.outcome.Outcome.{Outcome}
+use Rattle.ob_tables.proofs.ToldLemmas.{early_is}
+use Rattle.ob_verdict.specs.Outcomes.{outcome_of}
 use Rattle.ob_verdict.specs.declared.outcome.Outcome.TheVariants.{Refused}
-use Rattle.ob_exec.specs.InFlight.{IsFlown, IsMeant}
+use Rattle.ob_exec.specs.InFlight.{IsFlown}
 use Rattle.ob_exec.proofs.FlightStage.{HoldNow, closed_of}
-use Rattle.ob_stages.proofs.TotalsLemmas.{partly_none}
 
 module _ (p : Public) (m : ℕ) (stmt : Stmt) (r : Refusal) (now : refusal_now p m stmt ≡ Some r) where
   -- it may be seen so, whether it has ended or not

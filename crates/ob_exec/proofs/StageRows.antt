@@ -1,50 +1,23 @@
 -- A SELECT of rows in flight.
-use Rattle.std.proofs.Common.{◌≡◌, ◌⊎◌, ◌≤◌, ◌++◌, ℕ, zero, suc, Bool, true, false, List, [], ◌∷◌, length, Option, Some, None, Ok, refl, sym, ◌∙◌, ap, subst, inl, inr, arith}
-use Rattle.std.specs.Prelude.{IsSome, if◌then◌else◌}
-use Rattle.ob_base.specs.Events.{Event, Close, Head, row_events}
+use Rattle.ob_exec.proofs.Words.{Access, answer_labels, ap, arith, Bool, Close, closing, count_end, counted_after, Cut, Emits, End, Event, false, Head, headings_of, if◌then◌else◌, inl, inr, IsSome, labels_of, Lawful, length, List, None, Ok, Option, Outcome, PadPassed, printed_places, Public, refl, Refusal, refusal_now, RefusedEarly, row_events, rows, RowsAt, same_script, Seen, select_columns, Selected, selected_outcome, Selection, selection, Shown, Small, Some, Source, source_tables, Stage, stated, Static, Stmt, subst, suc, sym, true, Whole, whole_script, World, zero, ℕ, [], ◌++◌, ◌∙◌, ◌∷◌, ◌≡◌, ◌≤◌, ◌⊎◌}
 use Rattle.ob_base.specs.Plans.{choose}
-use Rattle.ob_base.specs.Stored.{headings_of}
-use Rattle.ob_base.specs.declared.access.Access.{Access}
-use Rattle.ob_base.specs.declared.config.Plan.TheVariants.{Small}
 use Rattle.ob_base.specs.declared.config.Planner.{Planner}
 use Rattle.ob_base.specs.declared.config.Planner.TheVariants.{Forced}
-use Rattle.ob_base.specs.declared.config.Public.{Public}
-use Rattle.ob_base.specs.declared.refusal.Refusal.{Refusal}
-use Rattle.ob_base.specs.declared.refusal.Refusal.TheVariants.{PadPassed, StoreFault}
-use Rattle.ob_base.specs.declared.seen.End.{End}
-use Rattle.ob_base.specs.declared.seen.End.TheVariants.{Static, Whole, Cut}
-use Rattle.ob_base.specs.declared.seen.Seen.{Seen}
-use Rattle.ob_base.specs.declared.shown.Shown.{Shown}
-use Rattle.ob_base.specs.declared.skeleton.Source.{Source}
+use Rattle.ob_base.specs.declared.refusal.Refusal.TheVariants.{StoreFault}
 use Rattle.ob_base.specs.declared.skeleton.Source.TheVariants.{Table as OneTable, Join}
-use Rattle.ob_emit.specs.Emitting.{labels_of}
 use Rattle.ob_flat.specs.declared.flat.Flat.{Flat}
-use Rattle.ob_mean.specs.Lawful.{Lawful}
-use Rattle.ob_mean.specs.Refusals.{source_tables}
-use Rattle.ob_mean.specs.Replay.{count_end}
-use Rattle.ob_mean.specs.Step.{printed_places, select_columns, select_condition}
+use Rattle.ob_mean.specs.Step.{select_condition}
 use Rattle.ob_mean.specs.Verdict.{counted, ended as seen_to}
-use Rattle.ob_row.specs.Slots.{rows}
-use Rattle.ob_script.specs.Script.{whole_script}
-use Rattle.ob_select.specs.Selecting.{IsCountOf, IsPlanOf, Selection, counted_after, selected_as}
-use Rattle.ob_select.specs.declared.selecting.Selected.{Selected}
+use Rattle.ob_select.specs.Selecting.{IsCountOf, IsPlanOf, selected_as}
 use Rattle.ob_select.specs.declared.selecting.Selected.TheVariants as Selecteds
 use Rattle.ob_sql.specs.declared.stmt.SelectRows.{SelectRows}
-use Rattle.ob_sql.specs.declared.stmt.Stmt.{Stmt}
 use Rattle.ob_sql.specs.declared.stmt.Stmt.TheVariants.{SelectRows as RowsStmt}
-use Rattle.ob_tables.specs.Running.{RefusedEarly}
-use Rattle.ob_tables.specs.Telling.{answer_labels}
-use Rattle.ob_vault.specs.State.{World}
-use Rattle.ob_verdict.proofs.LawfulProof.{same_script}
-use Rattle.ob_verdict.specs.Outcomes.{Emits, refusal_now}
-use Rattle.ob_verdict.specs.declared.outcome.Outcome.{Outcome}
 use Rattle.ob_verdict.specs.declared.outcome.Outcome.TheVariants as O
-use Rattle.ob_stages.specs.declared.rows.Stage.{Stage}
 use Rattle.ob_stages.specs.declared.rows.Stage.TheVariants as Stages
-use Rattle.ob_stages.specs.RowsStates.{HasCounted, PlacedAt, RowsAt, is_over, progress_of, seen_taking, table_blocks, taken_by}
+use Rattle.ob_stages.specs.RowsStates.{HasCounted, PlacedAt, is_over, progress_of, seen_taking, table_blocks, taken_by}
 use Rattle.ob_stages.specs.RowsHolds.{AnswersRows, EndedAt, Holds, HoldsAt, IsCutOff, IsToEnd, answered_by, closing_of, head_of, seen_ended}
 use Rattle.ob_exec.specs.InFlight as F
-use Rattle.ob_exec.specs.Sources.{closing, rows_skeleton, selected_outcome, selection, stated}
+use Rattle.ob_exec.specs.Sources.{rows_skeleton}
 use Rattle.ob_exec.proofs.FlightStage.{HasTable, IsSet, closed_of}
 use Rattle.ob_exec.proofs.RowsLawful.{lawful_cut, lawful_ended}
 use Rattle.ob_stages.proofs.RowsKnown.{rows_end}
@@ -159,23 +132,16 @@ module _ (g : RowsAt) (m : ℕ) (kept : List (List ℕ)) (events : List Event) (
       subst (λ (x : Seen). Lawful p m stmt (record x { end = Cut g.asked })) (sym at.seen)
       (lawful_none g.asked (subst (λ (x : Seen). g.asked ≤ length (whole_script p (rows_skeleton select) x)) at.seen within))
   going_lawful Stages.Make at holds failed outcome = taken_lawful _ at.0 (omega arith)
-  going_lawful (Stages.Read pass u seen) at holds failed outcome = taken_lawful _ at.0.counted (omega arith)
-  going_lawful (Stages.Write pass x) at holds failed outcome = taken_lawful _ at.0.counted (omega arith)
-  going_lawful (Stages.Emit x) at holds failed outcome = taken_lawful _ at.0.counted (omega arith)
   going_lawful Stages.Discard at holds failed outcome = taken_lawful _ at.counted (omega arith)
   going_lawful Stages.Over at holds failed outcome =
       let end : IsToEnd g events w = subst (λ (b : Bool). EndedAt b None g events w) failed (subst (λ (o : Option Outcome). EndedAt g.failed o g events w) outcome holds.1) in
       ended_lawful p.pad g.k refl end.few.0 (at.counted failed) end.seen
+  going_lawful other at holds failed outcome = taken_lawful _ at.0.counted (omega arith)
 
   -- where all was asked
   pub over_at : (stage : Stage) → is_over stage ≡ true → HoldsAt stage g kept events w → EndedAt g.failed g.outcome g events w
-  over_at (Stages.Count u) over holds = absurd (cc over)
-  over_at Stages.Make over holds = absurd (cc over)
-  over_at (Stages.Read pass u seen) over holds = absurd (cc over)
-  over_at (Stages.Write pass x) over holds = absurd (cc over)
-  over_at (Stages.Emit x) over holds = absurd (cc over)
-  over_at Stages.Discard over holds = absurd (cc over)
   over_at Stages.Over over holds = holds.1
+  over_at other over holds = absurd (cc over)
 
   pub over_or : (b : Bool) → is_over g.stage ≡ b → (is_over g.stage ≡ true) ⊎ (is_over g.stage ≡ false)
   over_or true at = inl at
@@ -273,12 +239,7 @@ module _ (g : RowsAt) (m : ℕ) (kept : List (List ℕ)) (events : List Event) (
         ends = end;
         asks = λ fault. cut.some;
       }
-  answer_stands (O.Refused r) none = absurd none
-  answer_stands O.Created none = absurd none
-  answer_stands O.Inserted none = absurd none
-  answer_stands (O.Changed n) none = absurd none
-  answer_stands (O.Deleted n) none = absurd none
-  answer_stands O.Dropped none = absurd none
+  answer_stands other none = absurd none
 
   stands_by : (failed : Bool) (o : Option Outcome) → g.failed ≡ failed → g.outcome ≡ o → F.IsFlown p m g.asked stmt g.seen (closed_of o events)
   stands_by failed (Some o) fails outcome = answer_stands o (answers o outcome)
@@ -311,12 +272,7 @@ module _ (g : RowsAt) (m : ℕ) (kept : List (List ℕ)) (events : List Event) (
     | inl none ↦ record { rows = []; are_rows = refl; is = inl none }
     | inr (shown, begun) ↦ record { rows = row_events shown; are_rows = are_rows shown; is = inr (begun ∙ head_is_labels shown) }
   ]
-  emits_by (O.Refused r) none = absurd none
-  emits_by O.Created none = absurd none
-  emits_by O.Inserted none = absurd none
-  emits_by (O.Changed n) none = absurd none
-  emits_by (O.Deleted n) none = absurd none
-  emits_by O.Dropped none = absurd none
+  emits_by other none = absurd none
 
   pub rows_emit : (o : Outcome) → g.outcome ≡ Some o → Emits stmt (answer_labels stmt p) o events
   rows_emit o outcome = emits_by o (answers o outcome)

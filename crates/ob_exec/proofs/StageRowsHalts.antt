@@ -1,22 +1,11 @@
 -- Where a SELECT of rows in flight gave up.
-use Rattle.std.proofs.Common.{◌≡◌, ◌⊎◌, ◌≤◌, ◌+◌, ℕ, zero, suc, Bool, true, false, IsTrue, List, length, Option, Some, None, refl, sym, ◌∙◌, ap, subst, inl, inr, arith}
-use Rattle.std.specs.Prelude.{IsSome, drop}
+use Rattle.ob_exec.proofs.Words.{ap, arith, Bool, count_end, drop, Event, false, headings_of, inl, inr, is_of_access, IsSome, IsTrue, length, List, None, OpErr, Option, Outcome, printed_places, refl, RowsAt, Seen, select_columns, Some, Stage, subst, suc, sym, true, whole_script, World, zero, ℕ, ◌+◌, ◌∙◌, ◌≡◌, ◌≤◌, ◌⊎◌}
 use Rattle.std.specs.List.{list_all}
-use Rattle.ob_base.specs.Events.{Event}
-use Rattle.ob_base.specs.Stored.{headings_of}
-use Rattle.ob_base.specs.declared.seen.Seen.{Seen}
-use Rattle.ob_flat.specs.declared.fault.OpErr.{OpErr}
 use Rattle.ob_flat.specs.declared.fault.OpErr.TheVariants as OpErrs
-use Rattle.ob_flat.specs.Passes.{is_of_access}
-use Rattle.ob_mean.specs.Replay.{count_end}
-use Rattle.ob_mean.specs.Step.{printed_places, select_columns, select_condition}
-use Rattle.ob_script.specs.Script.{whole_script}
+use Rattle.ob_mean.specs.Step.{select_condition}
 use Rattle.ob_select.specs.Memory.{HasCounted, is_reading, starts_with_make}
-use Rattle.ob_vault.specs.State.{World}
-use Rattle.ob_verdict.specs.declared.outcome.Outcome.{Outcome}
-use Rattle.ob_stages.specs.declared.rows.Stage.{Stage}
 use Rattle.ob_stages.specs.declared.rows.Stage.TheVariants as Stages
-use Rattle.ob_stages.specs.RowsStates.{PlacedAt, RowsAt, is_over, is_printing, progress_of, seen_taking}
+use Rattle.ob_stages.specs.RowsStates.{PlacedAt, is_over, is_printing, progress_of, seen_taking}
 use Rattle.ob_stages.specs.RowsHolds.{EndedAt, Halts, Holds, HoldsAt, IsToEnd, seen_ended}
 use Rattle.ob_exec.specs.Sources.{rows_skeleton}
 use Rattle.ob_exec.proofs.FlightStage.{IsSet, LacksHere, more_asked}
@@ -59,24 +48,15 @@ module _ (g : RowsAt) (m : ℕ) (kept : List (List ℕ)) (events : List Event) (
   counted_ended (Some pad) k padded same = inr (subst (λ (o : Option ℕ). IsSome o) (sym padded) refl)
 
   counted_printing : (stage : Stage) → is_printing stage ≡ true → PlacedAt stage g → HoldsAt stage g kept events w → g.failed ≡ false → HasCounted g.q.public g.seen
-  counted_printing (Stages.Count u) prints at holds failed = absurd (cc prints)
-  counted_printing Stages.Make prints at holds failed = absurd (cc prints)
-  counted_printing (Stages.Read pass u seen) prints at holds failed = absurd (cc prints)
-  counted_printing (Stages.Write pass x) prints at holds failed = absurd (cc prints)
   counted_printing (Stages.Emit x) prints at holds failed = counted_by g.q.public.pad g.k refl at.0.counted.seen
-  counted_printing Stages.Discard prints at holds failed = absurd (cc prints)
   counted_printing Stages.Over prints at holds failed =
       let end : IsToEnd g events w = subst (λ (b : Bool). EndedAt b None g events w) failed (subst (λ (o : Option Outcome). EndedAt g.failed o g events w) open_now holds.1) in
       counted_ended g.q.public.pad g.k refl end.seen
+  counted_printing other prints at holds failed = absurd (cc prints)
 
   counted_make : (stage : Stage) → stage ≡ Stages.Make → PlacedAt stage g → g.q.public.pad ≡ None → IsSome g.seen.k
-  counted_make (Stages.Count u) same at none = absurd (cc same)
   counted_make Stages.Make same at none = some_taking g.k (at.0.seen ∙ ap (λ (pad : Option ℕ). seen_taking pad g.k) none)
-  counted_make (Stages.Read pass u seen) same at none = absurd (cc same)
-  counted_make (Stages.Write pass x) same at none = absurd (cc same)
-  counted_make (Stages.Emit x) same at none = absurd (cc same)
-  counted_make Stages.Discard same at none = absurd (cc same)
-  counted_make Stages.Over same at none = absurd (cc same)
+  counted_make other same at none = absurd (cc same)
 
   pub rows_memory : e ≡ OpErrs.NoMemory → LacksHere (progress_of g) w v
   rows_memory memory = elim (halts.memory memory).place [

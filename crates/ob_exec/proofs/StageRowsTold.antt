@@ -1,52 +1,25 @@
 -- What a SELECT of rows in flight means for its table.
-use Rattle.std.proofs.Common.{◌≡◌, ◌≤◌, ◌+◌, ◌*◌, ◌++◌, ℕ, zero, suc, Bool, true, false, List, [], length, Option, Some, None, refl, sym, ◌∙◌, ap, subst, inl, inr, append_assoc}
-use Rattle.std.specs.Prelude.{if◌then◌else◌}
-use Rattle.std.proofs.lemmas.Bool.{le-leb}
-use Rattle.std.proofs.lemmas.List.{append-nil}
-use Rattle.ob_base.specs.Events.{Event}
+use Rattle.ob_exec.proofs.Words.{accessed, answer_events, answer_labels, ap, append-nil, append_assoc, Bool, closing, Cut, cut_at, database, Draws, early_held, early_refusal, Emitted, End, Event, false, headings, headings_of, held_empty, held_if, HoldsSeen, if◌then◌else◌, Index, inl, inr, is_late, IsUnfit, labels_of, le-leb, length, limits_of, List, None, OpErr, Option, Outcome, PadPassed, Partly, printed_places, Prints, Public, refl, refusal_now, rows, RowsAt, Same, Seen, select_columns, selected_outcome, Selection, selection, selection_answer, selection_seen, Slots, slots_of, Some, Source, source_rows, source_slots, Stage, stated, Stmt, subst, suc, sym, Tables, true, Unfinished, verdict, Whole, whole_script, World, zero, ℕ, [], ◌*◌, ◌++◌, ◌+◌, ◌∙◌, ◌≡◌, ◌≤◌}
 use Rattle.ob_base.specs.Plans.{IsPadded}
-use Rattle.ob_base.specs.Stored.{headings, headings_of}
-use Rattle.ob_base.specs.declared.config.Public.{Public}
-use Rattle.ob_base.specs.declared.refusal.Refusal.TheVariants.{PadPassed, StoreFault}
-use Rattle.ob_base.specs.declared.seen.End.{End}
-use Rattle.ob_base.specs.declared.seen.End.TheVariants.{Whole, Cut}
-use Rattle.ob_base.specs.declared.seen.Seen.{Seen}
-use Rattle.ob_base.specs.declared.skeleton.Source.{Source}
+use Rattle.ob_base.specs.declared.refusal.Refusal.TheVariants.{StoreFault}
 use Rattle.ob_base.specs.declared.skeleton.Source.TheVariants.{Table as OneTable}
-use Rattle.ob_emit.specs.Emitting.{labels_of}
 use Rattle.ob_flat.specs.Flats.{Represents}
-use Rattle.ob_flat.specs.declared.fault.OpErr.{OpErr}
 use Rattle.ob_flat.specs.declared.fault.OpErr.TheVariants as OpErrs
 use Rattle.ob_flat.specs.declared.flat.Flat.{Flat}
-use Rattle.ob_mean.specs.Prints.{Begun, Prints, Unfinished}
-use Rattle.ob_mean.specs.Refusals.{early_refusal, limits_of}
-use Rattle.ob_mean.specs.Replay.{cut_at, held_if}
-use Rattle.ob_mean.specs.Step.{printed_places, select_columns, select_condition, source_rows}
-use Rattle.ob_mean.specs.Verdict.{Draws, Tables, accessed, database, is_late, seen as seen_by, source_slots, verdict}
-use Rattle.ob_oram.specs.declared.index.Index.{Index}
-use Rattle.ob_row.specs.Bags.{Same}
-use Rattle.ob_row.specs.Slots.{Slots, rows}
-use Rattle.ob_script.specs.Script.{whole_script}
-use Rattle.ob_select.proofs.SelectHeld.{held_empty}
-use Rattle.ob_select.specs.Selecting.{HoldsSeen, Selection, answer_events, selection_answer, selection_seen}
+use Rattle.ob_mean.specs.Prints.{Begun}
+use Rattle.ob_mean.specs.Step.{select_condition}
+use Rattle.ob_mean.specs.Verdict.{seen as seen_by}
 use Rattle.ob_sql.specs.declared.stmt.SelectRows.{SelectRows}
-use Rattle.ob_sql.specs.declared.stmt.Stmt.{Stmt}
 use Rattle.ob_sql.specs.declared.stmt.Stmt.TheVariants.{SelectRows as RowsStmt}
-use Rattle.ob_tables.specs.Telling.{Emitted, answer_labels}
 use Rattle.ob_tables.proofs.HeldLemmas.{held_headings, held_plain}
-use Rattle.ob_tables.proofs.ToldLemmas.{early_held}
-use Rattle.ob_vault.specs.State.{World}
-use Rattle.ob_vault.specs.Tied.{IsUnfit}
 use Rattle.ob_vault.specs.Words.{IsHonest}
-use Rattle.ob_verdict.specs.Outcomes.{Partly, outcome_of as outcome_meant, refusal_now}
-use Rattle.ob_verdict.specs.declared.outcome.Outcome.{Outcome}
+use Rattle.ob_verdict.specs.Outcomes.{outcome_of as outcome_meant}
 use Rattle.ob_verdict.specs.declared.outcome.Outcome.TheVariants as O
-use Rattle.ob_stages.specs.declared.rows.Stage.{Stage}
 use Rattle.ob_stages.specs.declared.rows.Stage.TheVariants as Stages
-use Rattle.ob_stages.specs.RowsStates.{MayServe, PlacedAt, RowsAt, is_over, progress_of, seen_taking, table_blocks}
+use Rattle.ob_stages.specs.RowsStates.{MayServe, PlacedAt, is_over, progress_of, seen_taking, table_blocks}
 use Rattle.ob_stages.specs.RowsHolds.{AnswersRows, EndedAt, Halts, Holds, IsCutOff, IsOnWay, IsToEnd, closing_of, is_headless, left_of, meant_events, meant_outcome, seen_ended}
 use Rattle.ob_exec.specs.InFlight as F
-use Rattle.ob_exec.specs.Sources.{closing, rows_skeleton, selected_outcome, selection, slots_of, stated}
+use Rattle.ob_exec.specs.Sources.{rows_skeleton}
 use Rattle.ob_exec.proofs.FlightStage.{HasTable, HoldNow, IsSet, closed_of, shown_of}
 use Rattle.ob_exec.proofs.RowsMeaning.{rows_outcome, rows_partly, rows_prints, rows_seen, rows_unfinished, rows_unread}
 use Rattle.ob_stages.proofs.RowsKnown.{rows_end}
@@ -215,22 +188,12 @@ module _ (g : RowsAt) (m : ℕ) (kept : List (List ℕ)) (events : List Event) (
       subst (λ (b : Bool). EndedAt b None g events w) failed (ended_as g m kept events w is set ending condition cols within None over outcome)
 
   second_none : (stage : Stage) → is_over stage ≡ true → PlacedAt stage g → g.seen.then ≡ None
-  second_none (Stages.Count u) over at = absurd (cc over)
-  second_none Stages.Make over at = absurd (cc over)
-  second_none (Stages.Read pass u seen) over at = absurd (cc over)
-  second_none (Stages.Write pass x) over at = absurd (cc over)
-  second_none (Stages.Emit x) over at = absurd (cc over)
-  second_none Stages.Discard over at = absurd (cc over)
   second_none Stages.Over over at = at.second
+  second_none other over at = absurd (cc over)
 
   counted_by : (stage : Stage) → is_over stage ≡ true → PlacedAt stage g → g.failed ≡ false → table_blocks g.q ≤ g.asked
-  counted_by (Stages.Count u) over at failed = absurd (cc over)
-  counted_by Stages.Make over at failed = absurd (cc over)
-  counted_by (Stages.Read pass u seen) over at failed = absurd (cc over)
-  counted_by (Stages.Write pass x) over at failed = absurd (cc over)
-  counted_by (Stages.Emit x) over at failed = absurd (cc over)
-  counted_by Stages.Discard over at failed = absurd (cc over)
   counted_by Stages.Over over at failed = at.counted failed
+  counted_by other over at failed = absurd (cc over)
 
   end_holds : is_over g.stage ≡ true → g.failed ≡ false → g.seen ≡ selection_seen g.q slots → HoldsSeen g.q slots false g.asked g.seen
   end_holds over failed same =
@@ -273,12 +236,7 @@ module _ (g : RowsAt) (m : ℕ) (kept : List (List ℕ)) (events : List Event) (
       let told = meant.told slots represents honest in
       (told.0 ∙ outcome_is, told.1 ∙ seen_q ∙ sym (seen_meant d))
   answer_told d (O.Refused StoreFault) cut = cut_told d cut
-  answer_told d (O.Refused r) none = absurd none
-  answer_told d O.Created none = absurd none
-  answer_told d O.Inserted none = absurd none
-  answer_told d (O.Changed n) none = absurd none
-  answer_told d (O.Deleted n) none = absurd none
-  answer_told d O.Dropped none = absurd none
+  answer_told d other none = absurd none
 
   told_by : (d : Draws) (failed : Bool) (o : Option Outcome) → g.failed ≡ failed → g.outcome ≡ o → F.IsMeant d p m g.asked g.asked tables stmt g.seen (closed_of o events)
   told_by d failed (Some o) fails outcome = answer_told d o (answers g m kept events w is set ending condition cols within o outcome)
@@ -298,12 +256,7 @@ module _ (g : RowsAt) (m : ℕ) (kept : List (List ℕ)) (events : List Event) (
   answer_emitted (O.Rows n) (so, meant) = prints_of events (meant.told slots represents honest).2
   answer_emitted (O.Refused PadPassed) (refuses, meant) = prints_of events (meant.told slots represents honest).2
   answer_emitted (O.Refused StoreFault) cut = unfinished_of events (cut.told slots represents honest).1
-  answer_emitted (O.Refused r) none = absurd none
-  answer_emitted O.Created none = absurd none
-  answer_emitted O.Inserted none = absurd none
-  answer_emitted (O.Changed n) none = absurd none
-  answer_emitted (O.Deleted n) none = absurd none
-  answer_emitted O.Dropped none = absurd none
+  answer_emitted other none = absurd none
 
   pub rows_emitted : (o : Outcome) → g.outcome ≡ Some o → Emitted stmt p m tables o events
   rows_emitted o outcome = answer_emitted o (answers g m kept events w is set ending condition cols within o outcome)
@@ -312,12 +265,7 @@ module _ (g : RowsAt) (m : ℕ) (kept : List (List ℕ)) (events : List Event) (
   answer_partly (O.Rows n) (so, meant) = partly_of events ([], append-nil events ∙ (meant.told slots represents honest).2)
   answer_partly (O.Refused PadPassed) (refuses, meant) = partly_of events ([], append-nil events ∙ (meant.told slots represents honest).2)
   answer_partly (O.Refused StoreFault) cut = partly_of events (begun_more events (answer_events g.q slots) (closing_of (meant_outcome g.q slots)) (cut.told slots represents honest).1)
-  answer_partly (O.Refused r) none = absurd none
-  answer_partly O.Created none = absurd none
-  answer_partly O.Inserted none = absurd none
-  answer_partly (O.Changed n) none = absurd none
-  answer_partly (O.Deleted n) none = absurd none
-  answer_partly O.Dropped none = absurd none
+  answer_partly other none = absurd none
 
   partly_by : (failed : Bool) (o : Option Outcome) → g.failed ≡ failed → g.outcome ≡ o → Partly (answer_labels stmt p) (verdict p m tables stmt) events
   partly_by failed (Some o) fails outcome = answer_partly o (answers g m kept events w is set ending condition cols within o outcome)

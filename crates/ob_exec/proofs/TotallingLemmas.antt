@@ -1,35 +1,20 @@
 -- What a pass found of a table's totals, and what was emitted of it.
-use Rattle.std.proofs.Common.{◌≡◌, ◌⊎◌, inl, inr, ◌≤◌, ℕ, Bool, false, if◌then◌else◌, List, [], ◌∷◌, ◌++◌, length, map, filter, Some, None, Result, Ok, Err, refl, sym, ◌∙◌, ap, subst, arith, append-nil}
-use Rattle.std.specs.Prelude.{nat_lt}
-use Rattle.std.proofs.lemmas.Bool.Decides.{nat_tests}
-use Rattle.std.proofs.lemmas.List.{length-map}
-use Rattle.ob_base.specs.declared.access.Access.{Access}
-use Rattle.ob_base.specs.declared.emit.EmitErr.{EmitErr}
+use Rattle.ob_exec.proofs.Words.{Access, Answer, answered, ap, append-nil, arith, Bool, buffered, Close, Columns, Condition, count_part, EmitErr, Err, Event, false, Head, if◌then◌else◌, inl, inr, IsUnfit, Leads, length, length-map, List, map, nat_lt, nat_tests, None, none, Ok, OpErr, Outcome, partly_none, PassCut, Prints, refl, Result, row_events, rows, Shown, SinkCause, Slots, Some, subst, sym, unfit_none, Went, where_at, World, ℕ, [], ◌++◌, ◌∙◌, ◌∷◌, ◌≡◌, ◌≤◌, ◌⊎◌}
+use Rattle.std.proofs.Common.{filter}
 use Rattle.ob_base.specs.declared.emit.EmitErr.TheVariants as EmitErrs
 use Rattle.ob_base.specs.declared.refusal.Refusal.TheVariants.{TooManyGroups}
-use Rattle.ob_base.specs.declared.shown.Shown.{Shown}
 use Rattle.ob_base.specs.declared.skeleton.ColumnName.{ColumnName}
-use Rattle.ob_base.specs.Events.{Event, EmitCause, Head, Row as RowEvent, Close, row_events, Leads}
-use Rattle.ob_base.specs.Limits.{buffered}
-use Rattle.ob_base.specs.Schemas.{Columns}
+use Rattle.ob_base.specs.Events.{EmitCause, Row as RowEvent}
 use Rattle.ob_row.specs.declared.aggregate.Agg.{Agg}
 use Rattle.ob_row.specs.declared.aggregate.Item.{Item}
-use Rattle.ob_row.specs.Condition.{Condition}
 use Rattle.ob_row.specs.Rows.{Row}
-use Rattle.ob_row.specs.Slots.{Slots, rows}
 use Rattle.ob_row.specs.Totals.{totals, grouped, group_heads}
 use Rattle.ob_row.specs.Truth.{is_true}
-use Rattle.ob_script.specs.Parts.{count_part}
-use Rattle.ob_vault.specs.State.{World}
-use Rattle.ob_vault.specs.Tied.{IsUnfit}
-use Rattle.ob_vault.specs.Calls.{Went, none}
 use Rattle.ob_vault.proofs.WorldSteps.{calm_none}
-use Rattle.ob_flat.specs.declared.fault.OpErr.{OpErr}
 use Rattle.ob_flat.specs.declared.fault.OpErr.TheVariants.{Failed, Tampered, Sink, NoMemory}
 use Rattle.ob_flat.specs.declared.flat.Flat.{Flat}
 use Rattle.ob_flat.specs.Emission.{SlotsToEnd}
 use Rattle.ob_flat.specs.Flats.{Represents}
-use Rattle.ob_flat.specs.Passes.{PassCut, SinkCause}
 use Rattle.ob_flat.specs.Words.{TamperedIn, blocks_of}
 use Rattle.ob_group.specs.declared.grouping.Grouped.{Grouped}
 use Rattle.ob_group.specs.declared.grouping.Grouped.TheVariants.{Groups, TooMany}
@@ -37,19 +22,15 @@ use Rattle.ob_group.specs.Labels as G
 use Rattle.ob_group.specs.Passes.{Aggregates, GroupsRows}
 use Rattle.ob_group.specs.Steps.{EmitsAll}
 use Rattle.ob_sql.specs.declared.stmt.SelectTotals.{SelectTotals}
-use Rattle.ob_mean.specs.declared.answer.Answer.{Answer}
 use Rattle.ob_mean.specs.declared.answer.Answer.TheVariants as A
 use Rattle.ob_names.specs.Names.{place_of}
-use Rattle.ob_mean.specs.Conditions.{where_at}
-use Rattle.ob_mean.specs.Prints.{Prints, Begun}
-use Rattle.ob_mean.specs.Step.{answered, item_of}
-use Rattle.ob_verdict.specs.declared.outcome.Outcome.{Outcome}
+use Rattle.ob_mean.specs.Prints.{Begun}
+use Rattle.ob_mean.specs.Step.{item_of}
 use Rattle.ob_verdict.specs.declared.outcome.Outcome.TheVariants.{Rows, Refused}
 use Rattle.ob_exec.specs.Totalling.{HaltsTotals, Totals, ends_by}
 use Rattle.ob_stages.specs.Totalling.{TotalsFit, agg_at, labels_at, outcome_at, totalled_answer}
 use Rattle.ob_tables.specs.Stops.{error_of}
-use Rattle.ob_tables.proofs.EmitLemmas.{unfit_none}
-use Rattle.ob_stages.proofs.TotalsLemmas.{all_events, are_many, begun_rows, grouped_as, is_answer, items_labels, leads_join, leads_none, not_many, partly_none, partly_rows, prints_rows}
+use Rattle.ob_stages.proofs.TotalsLemmas.{all_events, are_many, begun_rows, grouped_as, is_answer, items_labels, leads_join, leads_none, not_many, partly_rows, prints_rows}
 use Rattle.ob_stages.proofs.TotalsLemmas as S
 
 -- ---- the emitter's failures

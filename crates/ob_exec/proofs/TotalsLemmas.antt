@@ -1,9 +1,7 @@
 -- Events that an emitter takes call by call.
-use Rattle.std.proofs.Common.{◌≡◌, ℕ, List, [], ◌++◌, Result, Ok, Err, refl, ◌∙◌, ap, subst, append_assoc}
-use Rattle.std.specs.Prelude.{OnOk, OnErr}
-use Rattle.std.proofs.lemmas.List.{append-nil}
-use Rattle.ob_base.specs.declared.emit.EmitErr.{EmitErr}
-use Rattle.ob_base.specs.Events.{Event, EmitCause, Leads}
+use Rattle.ob_exec.proofs.Words.{ap, append-nil, append_assoc, EmitErr, Err, Event, Leads, List, Ok, OnOk, refl, Result, subst, ℕ, [], ◌++◌, ◌∙◌, ◌≡◌}
+use Rattle.std.specs.Prelude.{OnErr}
+use Rattle.ob_base.specs.Events.{EmitCause}
 use Rattle.ob_stages.proofs.TotalsLemmas.{leads_join}
 use Rattle.ob_group.specs.Steps.{EmitsAll}
 

@@ -1,71 +1,39 @@
 -- A SELECT of totals, after its pass.
-use Rattle.std.proofs.Common.{◌≡◌, ◌⊎◌, inl, inr, ◌-◌, ◌≤◌, ℕ, Bool, true, false, if◌then◌else◌, List, [], length, filter, Option, Some, None, Ok, Err, refl, sym, ◌∙◌, ap, subst, arith, append-nil}
-use Rattle.std.specs.Prelude.{IfOk, IfErr}
-use Rattle.std.specs.Option.{option_map, option_map_or, option_or}
-use Rattle.ob_base.specs.declared.config.Public.{Public}
-use Rattle.ob_base.specs.declared.refusal.Refusal.{Refusal}
+use Rattle.ob_exec.proofs.Words.{Agrees, Answer, answer_labels, answer_of, answered, ap, append-nil, AreHeld, arith, at, blocks_for, Bool, buffered, ChangesNothing, Columns, Condition, count_of, Cut, database, Draws, early_held, early_refusal, Emits, Engine, Err, Event, false, flat_of, HasHalted, Heading, heading_found, headings, headings_of, Held, held_at, IfErr, IfOk, if◌then◌else◌, inl, inr, is_late, is_refused, is_stop, IsAt, IsNotTampered, Lasts, Leads, length, limits_of, List, None, none, Ok, OpErr, Option, option_map_or, Outcome, Partly, partly_none, Prints, Public, refl, Refusal, refusal_now, RevState, RoomState, rows, RunStop, Serves, SinkCause, SinkStops, skeleton, Some, Stmt, Stopped, Stored, stored_at, StoreState, subst, sym, Tables, true, Unfinished, Vault, verdict, went_rests, where_at, Whole, World, world_of, ℕ, [], ◌-◌, ◌∙◌, ◌≡◌, ◌≤◌, ◌⊎◌}
+use Rattle.std.proofs.Common.{filter}
+use Rattle.std.specs.Option.{option_map, option_or}
 use Rattle.ob_base.specs.declared.refusal.Refusal.TheVariants.{TooManyGroups, StoreFault}
-use Rattle.ob_tables.specs.declared.stop.RunStop.{RunStop}
 use Rattle.ob_tables.specs.declared.stop.RunStop.TheVariants as Stops
-use Rattle.ob_base.specs.declared.schema.Heading.{Heading}
 use Rattle.ob_base.specs.declared.schema.Table.{Table}
-use Rattle.ob_base.specs.declared.seen.End.TheVariants.{Whole, Cut}
-use Rattle.ob_base.specs.Events.{Event, Leads}
-use Rattle.ob_base.specs.Limits.{buffered}
-use Rattle.ob_base.specs.Numbers.{blocks_for}
-use Rattle.ob_base.specs.Schemas.{Columns}
-use Rattle.ob_base.specs.Stored.{Stored, headings, headings_of, stored_at}
-use Rattle.ob_room.specs.RoomState.{RoomState}
-use Rattle.ob_row.specs.Condition.{Condition}
 use Rattle.ob_row.specs.Rows.{Row}
-use Rattle.ob_row.specs.Slots.{rows}
 use Rattle.ob_row.specs.Truth.{is_true}
 use Rattle.ob_row.proofs.BagLemmas.{Same-refl}
-use Rattle.ob_store.specs.State.{StoreState}
-use Rattle.ob_store.specs.Calls.{ChangesNothing}
-use Rattle.ob_vault.specs.State.{RevState, World}
-use Rattle.ob_vault.specs.Calls.{Lasts, none}
-use Rattle.ob_vault.specs.Places.{at}
-use Rattle.ob_vault.specs.declared.vault.Vault.{Vault}
-use Rattle.ob_vault.proofs.WordLemmas.{went_rests}
-use Rattle.ob_flat.specs.declared.fault.OpErr.{OpErr}
 use Rattle.ob_flat.specs.declared.fault.OpErr.TheVariants as OpErrs
 use Rattle.ob_flat.specs.declared.flat.Flat.{Flat}
 use Rattle.ob_flat.specs.Emission.{SlotsToEnd}
 use Rattle.ob_flat.specs.Flats.{Represents as FlatRepresents}
-use Rattle.ob_flat.specs.Passes.{SinkCause}
 use Rattle.ob_flat.proofs.Resting.{represents_rests}
 use Rattle.ob_sql.specs.declared.stmt.SelectTotals.{SelectTotals}
-use Rattle.ob_sql.specs.declared.stmt.Stmt.{Stmt}
 use Rattle.ob_sql.specs.declared.stmt.Stmt.TheVariants.{SelectTotals as TotalsStmt}
-use Rattle.ob_sql.specs.Skeleton.{skeleton, named_by}
+use Rattle.ob_sql.specs.Skeleton.{named_by}
 use Rattle.std.specs.List.{flat_map}
-use Rattle.ob_mean.specs.declared.answer.Answer.{Answer}
 use Rattle.ob_mean.specs.declared.answer.Answer.TheVariants as A
 use Rattle.ob_names.specs.Names.{columns_at}
-use Rattle.ob_mean.specs.Conditions.{where_at}
-use Rattle.ob_mean.specs.Prints.{Prints, Unfinished}
-use Rattle.ob_mean.specs.Refusals.{early_refusal, limits_of}
 use Rattle.ob_mean.specs.Settle.{settle}
-use Rattle.ob_mean.specs.Step.{accepted_answer, answered, overgroups, rows_at, totals_answer}
-use Rattle.ob_mean.specs.Verdict.{Draws, Held, Tables, database, is_late, refusal, verdict, seen, ended as seen_to}
+use Rattle.ob_mean.specs.Step.{accepted_answer, overgroups, rows_at, totals_answer}
+use Rattle.ob_mean.specs.Verdict.{refusal, seen, ended as seen_to}
 use Rattle.ob_mean.proofs.VerdictLemmas.{heading-stored, headings-database, stored-database, refused_late}
-use Rattle.ob_tables.specs.declared.engine.Engine.{Engine}
-use Rattle.ob_verdict.specs.declared.outcome.Outcome.{Outcome}
 use Rattle.ob_verdict.specs.declared.outcome.Outcome.TheVariants.{Refused}
-use Rattle.ob_tables.specs.Agreeing.{Agrees, world_of, count_of}
-use Rattle.ob_tables.specs.Engines.{IsAt, flat_of}
-use Rattle.ob_tables.specs.Running.{SinkStops, answer_of, is_stop, stops_access}
-use Rattle.ob_verdict.specs.Outcomes.{refusal_now, outcome_of, Emits, Partly}
+use Rattle.ob_tables.specs.Running.{stops_access}
+use Rattle.ob_verdict.specs.Outcomes.{outcome_of}
 use Rattle.ob_select.specs.Selecting.{UsesRoom}
-use Rattle.ob_tables.specs.Serving.{StopsEmission, Serves, Stopped}
-use Rattle.ob_select.specs.Memory.{HasHalted}
+use Rattle.ob_tables.specs.Serving.{StopsEmission}
 use Rattle.ob_tables.proofs.BegunLemmas.{begun_plain}
-use Rattle.ob_tables.specs.Telling.{AreHeld, Represents, IsNotTampered, answer_labels, is_refused}
+use Rattle.ob_tables.specs.Telling.{Represents}
 use Rattle.ob_exec.specs.Totalling.{MayTotal, Totals, ends_by}
 use Rattle.ob_stages.specs.Totalling.{IsTotalled, TotalsFit, labels_at, totalled_answer}
-use Rattle.ob_tables.proofs.FoundLemmas.{heading_found, shape_found}
-use Rattle.ob_tables.proofs.HeldLemmas.{Beside, held_at}
+use Rattle.ob_tables.proofs.FoundLemmas.{shape_found}
+use Rattle.ob_tables.proofs.HeldLemmas.{Beside}
 use Rattle.ob_tables.proofs.PlainLemmas.{none_room, none_stops, pass_stops, settle_is}
 use Rattle.ob_base.specs.declared.schema.Shape.TheVariants.{Flat as FlatShape}
 use Rattle.ob_mean.specs.Replay.{has_index}
@@ -75,8 +43,8 @@ use Rattle.ob_tables.proofs.LawfulLemmas.{lawful_now}
 use Rattle.ob_tables.proofs.ReadLemmas.{cut_after, held_read, read_cut, read_done, read_flat, read_size, reads, reads_is, went_all}
 use Rattle.ob_tables.proofs.RunLemmas.{IsAnswered, engine_after, no_access, ran_no_room, only_memory}
 use Rattle.ob_tables.proofs.SealLemmas.{keeps_pass, keeps_rests}
-use Rattle.ob_tables.proofs.ToldLemmas.{cut_seen, early_held, refused_none, started_seen, told_whole, followed_same}
-use Rattle.ob_stages.proofs.TotalsLemmas.{partly_none, totals_fit}
+use Rattle.ob_tables.proofs.ToldLemmas.{cut_seen, refused_none, started_seen, told_whole, followed_same}
+use Rattle.ob_stages.proofs.TotalsLemmas.{totals_fit}
 use Rattle.ob_tables.proofs.EmitLemmas.{lie_none}
 
 -- ---- what it means
@@ -121,10 +89,8 @@ on_stop grew cut P events a b starts OpErrs.NoMemory leads h = h Stops.NoMemory 
 
 -- want of memory behind all accesses was the emitter's
 given_up : {E : Type 0} (grew cut : E → E → List Event → Type 0) (events : List Event) (a b : E) → grew a a [] → (e : OpErr) → e ≡ OpErrs.NoMemory → Leads grew (ends_by grew cut e) a b events → HasHalted cut a b
-given_up grew cut events a b starts OpErrs.Failed is leads = absurd (cc is)
-given_up grew cut events a b starts (OpErrs.Tampered q x) is leads = absurd (cc is)
-given_up grew cut events a b starts OpErrs.Sink is leads = absurd (cc is)
 given_up grew cut events a b starts OpErrs.NoMemory is leads = record { events = events; ends = leads a [] starts }
+given_up grew cut events a b starts other is leads = absurd (cc is)
 
 if_stop : (P : RunStop → Type 0) (e : OpErr) → ((stop : RunStop) → P stop) → IfErr (answer_of e) P
 if_stop P OpErrs.Failed h = tt
@@ -134,9 +100,7 @@ if_stop P OpErrs.NoMemory h = h Stops.NoMemory
 
 sink_of : (e : OpErr) (a b : ℕ) → SinkCause {T = Outcome} (Err e) a b → SinkStops (answer_of e) a b
 sink_of OpErrs.Failed a b is = is
-sink_of (OpErrs.Tampered q x) a b is = is
-sink_of OpErrs.Sink a b is = is
-sink_of OpErrs.NoMemory a b is = is
+sink_of other a b is = is
 
 not_tampered : (e : OpErr) → (e ≡ OpErrs.Failed) ⊎ (e ≡ OpErrs.Sink) ⊎ (e ≡ OpErrs.NoMemory) → IfErr (answer_of e) IsNotTampered
 not_tampered e (inl is) = subst (λ (x : OpErr). IfErr (answer_of x) IsNotTampered) (sym is) tt
@@ -145,10 +109,8 @@ not_tampered e (inr (inr is)) = subst (λ (x : OpErr). IfErr (answer_of x) IsNot
 
 -- nothing was emitted where the store failed
 pub unfinished_none : (labels : List (List ℕ)) (answer : Answer) → Unfinished labels answer []
-unfinished_none labels A.Done = refl
-unfinished_none labels (A.Changed n) = refl
 unfinished_none labels (A.Rows rows) = record { printed = rows; same = Same-refl rows; begun = (_, refl) }
-unfinished_none labels (A.Refused r) = refl
+unfinished_none labels other = refl
 
 -- ---- all of it
 module _ {R E : Type 0} (state : R → RevState) (grew cut : E → E → List Event → Type 0) (faults : E → ℕ) (starts : (a : E) → grew a a [])

@@ -1,11 +1,8 @@
 -- What saving asks reads nothing: a changed block that was read was read before.
-use Rattle.std.proofs.Common.{◌≡◌, ℕ, zero, suc, List, [], ◌∷◌, ◌++◌, Option, None, Some, sym, ◌∙◌, subst}
+use Rattle.ob_exec.proofs.Words.{Access, Lie, List, None, Option, ReadsIn, Some, subst, suc, sym, zero, ℕ, [], ◌++◌, ◌∙◌, ◌∷◌, ◌≡◌}
 use Rattle.ob_base.specs.Accesses.{drop_script, make_at, write_at}
 use Rattle.ob_base.specs.Lists.{each}
-use Rattle.ob_base.specs.declared.access.Access.{Access}
 use Rattle.ob_base.specs.declared.access.Access.TheVariants.{Discard, Make, Open, Read, Write}
-use Rattle.ob_store.specs.State.{Lie}
-use Rattle.ob_vault.specs.Tied.{ReadsIn}
 
 abbrev pub Unread : List Access → Type 0
 Unread [] = Unit {0}

@@ -7,3 +7,4 @@ pub mod RanBatch
 pub mod InFlight
 pub mod RanFlight
 pub mod Boarding
+pub mod GivenUp

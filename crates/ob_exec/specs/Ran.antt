@@ -5,7 +5,7 @@ use Rattle.ob_base.specs.Counts.{Rises}
 use Rattle.ob_base.specs.Events.{Event}
 use Rattle.ob_base.specs.declared.access.Access.{Access}
 use Rattle.ob_base.specs.declared.config.Public.{Public}
-use Rattle.ob_base.specs.declared.mark.Mark.{Mark}
+use Rattle.ob_reopen.specs.declared.mark.Mark.{Mark}
 use Rattle.ob_base.specs.declared.seen.End.{End}
 use Rattle.ob_base.specs.declared.seen.End.TheVariants.{Static, Whole, AfterCount, Joined, Cut}
 use Rattle.ob_base.specs.declared.seen.Seen.{Seen}

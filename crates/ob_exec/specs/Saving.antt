@@ -4,7 +4,7 @@ use Rattle.std.specs.Prelude.{◌≡◌, ◌≢◌, ◌⊎◌, ◌≤◌, ◌<�
 use Rattle.ob_base.specs.Accesses.{drop_script, make_at}
 use Rattle.ob_base.specs.Counts.{Rises}
 use Rattle.ob_base.specs.Stored.{headings_of}
-use Rattle.ob_base.specs.declared.mark.Mark.{Mark}
+use Rattle.ob_reopen.specs.declared.mark.Mark.{Mark}
 use Rattle.ob_mean.specs.Flats.{AreFlat}
 use Rattle.ob_mean.specs.Verdict.{Tables}
 use Rattle.ob_reopen.specs.Closed.{is_used_up}
@@ -57,7 +57,8 @@ pub record HoldsSaved {R : Type 0} (state : R → RevState) (e : Engine R) (s t 
     (keeper : KeeperState) : Type 0 where
   pub salt : List ℕ
   pub of : (pair_of (engine_keys e) (next_closing e s).region).salt ≡ Some salt
-  pub is : keeper.held ≡ Some (saved_mark (next_closing e s) salt)
+  pub is : keeper.held ≡ Some (saved_mark (next_closing e s) salt
+      (pair_of (engine_keys e) (next_closing e s).region).check)
   pub rests : IsTrue s.tells → (tables : Tables) → Represents state e s tables
       → RestsIn (engine_keys e) (next_closing e s) t.kept (by_name tables) (public_of e).tables
 

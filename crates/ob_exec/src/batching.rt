@@ -1,9 +1,12 @@
 //! INSERTs that are served together, and the tables behind them.
-ghost use Rattle.std.specs.Prelude.{◌≡◌, None, OnOk, false, length};
+ghost use Rattle.std.specs.Prelude.{◌≡◌, None, Ok, OnOk, false, length};
 ghost use Rattle.ob_exec.specs.RanBatch.{RanBatch};
+ghost use Rattle.ob_base.specs.declared.refusal.Refusal.TheVariants.{StoreFault};
+ghost use Rattle.ob_exec.specs.GivenUp.{GaveUpFrom};
 ghost use Rattle.ob_exec.specs.Saving.{MaySave};
 ghost use Rattle.ob_tables.specs.Agreeing.{Agrees, count_of, has_ended, public_of, replaced_of};
 ghost use Rattle.ob_tables.specs.Batch.{AreBatch};
+ghost use Rattle.ob_verdict.specs.declared.outcome.Outcome.TheVariants.{Refused};
 
 use crate::behind::Behind;
 use crate::saving::{begin, finish};
@@ -43,6 +46,8 @@ pub fn run_batch<S: BlockStore, R: Revisions, B: Behind<S>>(
     ensures listed { (S.state store.new).let_go ≡ (S.state store.old).let_go }
     ensures saves { OnOk result (MaySave (B.Saves behind.new) engine.new) }
     ensures same { B.name behind.new ≡ B.name behind.old }
+    ensures given_up { result ≡ Ok (Refused StoreFault) → GaveUpFrom
+        (public_of engine.old).next_region (S.given_up store.new) (S.state store.new) }
 {
     let begun = begin(engine, store, first);
     let answer = engine.insert_batch(store, first, rest, outcomes);

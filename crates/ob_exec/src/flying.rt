@@ -8,6 +8,7 @@ ghost use Rattle.ob_inflight.specs.Kinds.{kind_of, moment, taker_of};
 ghost use Rattle.ob_vault.specs.Places.{at};
 ghost use Rattle.ob_tables.specs.Agreeing.{Agrees, count_of, has_ended, public_of};
 ghost use Rattle.ob_exec.specs.Boarding.{MaySetOff, engine_behind};
+ghost use Rattle.ob_exec.specs.GivenUp.{GaveUpFrom};
 ghost use Rattle.ob_exec.specs.InFlight.{AreFlight};
 ghost use Rattle.ob_exec.specs.RanFlight.{RanFlight, halt_of, halted};
 
@@ -129,7 +130,8 @@ fn stop_of(error: OpErr) -> RunStop
 ///
 /// Whatever the store does, its accesses are those that the words merge of what each asks by what is seen of it, or the
 /// first of them where one stops the flight, as in `run`; then the session has ended, and of those that hadn't ended
-/// `seens` has what was seen by then. One that the store fails is refused so, and doesn't stop the others.
+/// `seens` has what was seen by then. One that the store fails is refused so, and doesn't stop the others; behind the
+/// last one the regions that the flight made are given up, so that what a failed one left doesn't stay.
 pub fn run_flight<S: BlockStore, R: Revisions, T: Turns, E: FlightOut>(
     engine: &mut Engine<R>,
     store: &mut S,
@@ -146,10 +148,14 @@ pub fn run_flight<S: BlockStore, R: Revisions, T: Turns, E: FlightOut>(
     ensures ran { RanFlight R.state E.grew E.cut E.closed E.parted E.faults
         (T.word turns.old) (T.word turns.new) stmts.now seens.new result
         engine.old (S.state store.old) engine.new (S.state store.new) out.old out.new }
+    ensures given_up { OnOk result (GaveUpFrom (public_of engine.old).next_region
+        (S.given_up store.new) (S.state store.new)) }
 {
+    let from = engine.public().next_region;
     match fly_all(engine, store, stmts, turns, out, seens) {
         Ok(()) => {
             engine.end_flight(false);
+            engine.vault.give_up(store, from);
             Ok(())
         }
         Err(error) => {

@@ -1,11 +1,14 @@
 //! A statement, by its kind, and the tables behind it.
-ghost use Rattle.std.specs.Prelude.{◌≡◌, None, OnOk, true, false};
+ghost use Rattle.std.specs.Prelude.{◌≡◌, None, Ok, OnOk, true, false};
 ghost use Rattle.ob_exec.specs.Ran.{Ran, ShowsNothing};
+ghost use Rattle.ob_base.specs.declared.refusal.Refusal.TheVariants.{StoreFault};
+ghost use Rattle.ob_exec.specs.GivenUp.{GaveUpFrom};
 ghost use Rattle.ob_exec.specs.Saving.{MaySave};
 ghost use Rattle.ob_script.specs.Script.{changes_tables};
 ghost use Rattle.ob_sql.specs.Skeleton.{skeleton};
 ghost use Rattle.ob_tables.specs.Agreeing.{Agrees, has_ended, public_of, replaced_of, seen_of};
 ghost use Rattle.ob_tables.specs.Serving.{Serves};
+ghost use Rattle.ob_verdict.specs.declared.outcome.Outcome.TheVariants.{Refused};
 
 use crate::behind::Behind;
 use crate::rows::select_rows;
@@ -65,8 +68,8 @@ fn serve<S: BlockStore, R: Revisions, E: Emit>(
 ///
 /// The answer is that of the statement over the tables before, if the store gave each block as it
 /// was written last. `Refused` says why it was not carried out, and changes no table: for what it
-/// says, for what the tables hold, or because the store failed at some access, by `StoreFault`.
-/// Where it is refused for what it says, nothing was asked of the store.
+/// says, for what the tables hold, or because the store failed at some access, by `StoreFault`: then the regions
+/// that the statement made are given up. Where it is refused for what it says, nothing was asked of the store.
 ///
 /// Where tables are saved, `behind` saves them once a statement that changes tables came to its end, also where it is
 /// refused for what they hold, and only then it is answered.
@@ -100,6 +103,8 @@ pub fn run<S: BlockStore, R: Revisions, B: Behind<S>, E: Emit>(
         (B.state behind.old) (B.state behind.new) }
     ensures saves { OnOk result (MaySave (B.Saves behind.new) engine.new) }
     ensures same { B.name behind.new ≡ B.name behind.old }
+    ensures given_up { result ≡ Ok (Refused StoreFault) → GaveUpFrom
+        (public_of engine.old).next_region (S.given_up store.new) (S.state store.new) }
 {
     let begun = begin(engine, store, stmt);
     let answer = serve(engine, store, stmt, out);

@@ -1,5 +1,5 @@
 //! The tables behind a statement that was carried out: they are saved where they are to be.
-ghost use Rattle.std.specs.Prelude.{◌≡◌, ◌&&◌, ◌≤◌, Ok, length, true};
+ghost use Rattle.std.specs.Prelude.{◌≡◌, ◌&&◌, ◌≤◌, Ok, length, true, false};
 ghost use Rattle.ob_base.specs.declared.refusal.Refusal.TheVariants.{StoreFault};
 ghost use Rattle.ob_exec.specs.Behind.{IsBegun, SavesBehind, ended_at, is_due};
 ghost use Rattle.ob_exec.specs.Ran.{is_whole};
@@ -7,6 +7,7 @@ ghost use Rattle.ob_exec.specs.Saving.{MayBeSaved};
 ghost use Rattle.ob_script.specs.Script.{changes_tables, is_saved};
 ghost use Rattle.ob_sql.specs.Skeleton.{skeleton};
 ghost use Rattle.ob_tables.specs.Agreeing.{public_of, seen_of};
+ghost use Rattle.ob_exec.specs.GivenUp.{GaveUpFrom};
 ghost use Rattle.ob_vault.specs.State.{HasNoneFrom};
 ghost use Rattle.ob_verdict.specs.declared.outcome.Outcome.TheVariants.{Refused};
 
@@ -80,7 +81,7 @@ fn end_at<R: Revisions>(engine: &mut Engine<R>, accesses: u64)
     let _ = engine.cut(accesses, OpErr::NoMemory);
 }
 
-// Leaves in the store what the vault forgot of a statement that was answered so, from this region on.
+// Has the store give up what the vault forgot of a statement that was answered so, from this region on.
 fn leave_forgotten<S: BlockStore, R: Revisions>(
     engine: &Engine<R>,
     store: &mut S,
@@ -90,13 +91,15 @@ fn leave_forgotten<S: BlockStore, R: Revisions>(
     requires forgotten { outcome ≡ Refused StoreFault
         → HasNoneFrom next (R.state engine.now.vault.revs) }
     ensures same { S.state store.new ≡ S.state store.old }
+    ensures given_up { outcome ≡ Refused StoreFault
+        → GaveUpFrom next (S.given_up store.new) (S.state store.new) }
 {
     if let Outcome::Refused(Refusal::StoreFault) = outcome {
         engine.vault.give_up(store, next);
     }
 }
 
-// Ends a statement that was carried out: what the vault forgot of one that the store failed stays in the store, and the
+// Ends a statement that was carried out: what the vault forgot of one that the store failed is given up, and the
 // tables behind it are saved if they are due to be. Then it is answered.
 pub(crate) fn finish<S: BlockStore, R: Revisions, B: Behind<S>>(
     engine: &mut Engine<R>,
@@ -119,6 +122,9 @@ pub(crate) fn finish<S: BlockStore, R: Revisions, B: Behind<S>>(
         (B.state behind.old) (B.state behind.new) }
     ensures stays { B.Saves behind.old → B.Saves behind.new }
     ensures same { B.name behind.new ≡ B.name behind.old }
+    ensures given_up { is_due begun.saved answer (seen_of engine.old).end ≡ false
+        → result ≡ Ok (Refused StoreFault)
+        → GaveUpFrom begun.next (S.given_up store.new) (S.state store.new) }
 {
     let outcome = match answer {
         Ok(outcome) => outcome,

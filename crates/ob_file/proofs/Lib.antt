@@ -1,2 +1,5 @@
+pub mod Appending
 pub mod MarkLemmas
 pub mod FolderLemmas
+pub mod HeldLemmas
+pub mod PlaceLemmas

@@ -1,18 +1,18 @@
 -- The words of a mark's line.
-use Rattle.std.proofs.Common.{◌≡◌, ◌≢◌, ◌<◌, ◌^◌, ℕ, zero, suc, Bool, true, ◌&&◌, nat_lt, List, [], ◌∷◌, ◌++◌, codes, decimal, IsAscii, IsUtf8, Option, None, Some, Result, Ok, Err, MatchResult, refl, sym, subst, ap, ◌∙◌, arith}
+use Rattle.std.proofs.Common.{◌≡◌, ◌≢◌, ◌<◌, ◌^◌, ℕ, zero, suc, Bool, true, ◌&&◌, nat_lt, List, [], ◌∷◌, ◌++◌, slice_index, length, ◌/◌, ◌%◌, codes, decimal, IsAscii, IsUtf8, Option, None, Some, Result, Ok, Err, MatchResult, refl, sym, subst, ap, ◌∙◌, arith}
 use Rattle.std.proofs.lemmas.Bool.{and_parts, ltb-true}
 use Rattle.std.proofs.lemmas.Fmt.{IsAscii-decimal, decimal_is_IsNumeral}
 use Rattle.std.proofs.lemmas.Str.{IsUtf8-append, IsUtf8-from_ascii}
 use Rattle.std.proofs.lemmas.Str.Ascii.{IsAscii-cons, IsAscii-nil}
 use Rattle.std.proofs.lemmas.Str.Parse.{digit_at}
 use Rattle.std.specs.Result.{result_ok}
-use Rattle.hex.specs.Hex.{decode_sized, encode_lower, lower_digits}
+use Rattle.hex.specs.Hex.{decode_sized, encode_lower, encode_with, lower_digits}
 use Rattle.hex.specs.declared.error.FromHexError.{FromHexError}
 use Rattle.hex.proofs.HexLemmas.{IsAscii-encode_with, decode_of-ok, decode_sized-encode_lower, decode_sized-ok, decode_sized-twice}
-use Rattle.ob_base.specs.declared.mark.Mark.{Mark}
-use Rattle.ob_base.specs.declared.mark.Mark.TheVariants.{Fresh, InUse, Closed, Begun, Saved}
+use Rattle.ob_reopen.specs.declared.mark.Mark.{Mark}
+use Rattle.ob_reopen.specs.declared.mark.Mark.TheVariants.{Fresh, InUse, Closed, Begun, Saved}
 use Rattle.ob_reopen.specs.Keepers.{AreMarked, AreSaltBytes}
-use Rattle.ob_file.specs.Marks.{HasNoBlank, Spells, numbers_text, salt_text}
+use Rattle.ob_file.specs.Marks.{HasNoBlank, Spells, bytes_text, numbers_text, salts_text}
 
 -- ---- words
 pub digits_are_word : (n : ℕ) → n < 2 ^ 64 → HasNoBlank (decimal n)
@@ -36,6 +36,29 @@ pub saved_is_word : HasNoBlank (codes "saved")
 saved_is_word =
     word_more 115 (codes "aved") (λ is. cc is) (word_more 97 (codes "ved") (λ is. cc is) (word_more 118 (codes "ed") (λ is. cc is)
     (word_more 101 (codes "d") (λ is. cc is) (word_more 100 [] (λ is. cc is) word_none))))
+
+-- a digit of a table that has no blank
+no_blank_in : (table : List ℕ) (i : ℕ) → ((k : ℕ) → k < length table → slice_index table k ≢ 32) → slice_index table i ≢ 32
+no_blank_in [] i each is = absurd (cc is)
+no_blank_in (c ∷ cs) zero each is = each zero (omega arith) is
+no_blank_in (c ∷ cs) (suc i) each is = no_blank_in cs i (λ k below. each (suc k) (omega (arith, below))) is
+
+hex_has_no_blank : HasNoBlank lower_digits
+hex_has_no_blank =
+    word_more 48 (codes "123456789abcdef") (λ is. cc is) (word_more 49 (codes "23456789abcdef") (λ is. cc is) (word_more 50 (codes "3456789abcdef") (λ is. cc is)
+    (word_more 51 (codes "456789abcdef") (λ is. cc is) (word_more 52 (codes "56789abcdef") (λ is. cc is) (word_more 53 (codes "6789abcdef") (λ is. cc is)
+    (word_more 54 (codes "789abcdef") (λ is. cc is) (word_more 55 (codes "89abcdef") (λ is. cc is) (word_more 56 (codes "9abcdef") (λ is. cc is)
+    (word_more 57 (codes "abcdef") (λ is. cc is) (word_more 97 (codes "bcdef") (λ is. cc is) (word_more 98 (codes "cdef") (λ is. cc is)
+    (word_more 99 (codes "def") (λ is. cc is) (word_more 100 (codes "ef") (λ is. cc is) (word_more 101 (codes "f") (λ is. cc is)
+    (word_more 102 [] (λ is. cc is) word_none)))))))))))))))
+
+pub hex_is_word : (bytes : List ℕ) → HasNoBlank (encode_lower bytes)
+unfolding encode_with
+hex_is_word [] = word_none
+hex_is_word (b ∷ bytes) =
+    word_more (slice_index lower_digits (b / 16)) (slice_index lower_digits (b % 16) ∷ encode_lower bytes)
+    (no_blank_in lower_digits (b / 16) hex_has_no_blank)
+    (word_more (slice_index lower_digits (b % 16)) (encode_lower bytes) (no_blank_in lower_digits (b % 16) hex_has_no_blank) (hex_is_word bytes))
 
 -- ---- what follows each number
 abbrev pub after_number : (pack : ℕ) → List ℕ → List ℕ
@@ -87,10 +110,17 @@ utf8_numbers region blocks number pack end within last =
     let first = utf8_more blocks (after_blocks number pack end) (omega (arith, within.blocks_most)) second in
     utf8_more region (after_region blocks number pack end) (omega (arith, within.region_most)) first
 
-utf8_salt : (salt : List ℕ) → IsUtf8 (codes " " ++ salt_text salt)
-utf8_salt salt =
-    let digits = IsUtf8-from_ascii (encode_lower salt) (IsAscii-encode_with lower_digits salt (low_ascii lower_digits refl)) in
-    IsUtf8-append (codes " ") (salt_text salt) (low_utf8 (codes " ") refl) (IsUtf8-append (encode_lower salt) (codes "\n") digits (low_utf8 (codes "\n") refl))
+utf8_digits : (bytes : List ℕ) → IsUtf8 (encode_lower bytes)
+utf8_digits bytes = IsUtf8-from_ascii (encode_lower bytes) (IsAscii-encode_with lower_digits bytes (low_ascii lower_digits refl))
+
+pub utf8_bytes : (bytes : List ℕ) → IsUtf8 (bytes_text bytes)
+utf8_bytes bytes = IsUtf8-append (encode_lower bytes) (codes "\n") (utf8_digits bytes) (low_utf8 (codes "\n") refl)
+
+utf8_salts : (salt check : List ℕ) → IsUtf8 (codes " " ++ salts_text salt check)
+utf8_salts salt check =
+    let last = IsUtf8-append (codes " ") (bytes_text check) (low_utf8 (codes " ") refl) (utf8_bytes check) in
+    IsUtf8-append (codes " ") (salts_text salt check) (low_utf8 (codes " ") refl)
+    (IsUtf8-append (encode_lower salt) (codes " " ++ bytes_text check) (utf8_digits salt) last)
 
 pub utf8_spelt : (text : List ℕ) (mark : Mark) → Spells text mark → IsUtf8 text
 utf8_spelt text Fresh is = absurd is
@@ -99,9 +129,9 @@ utf8_spelt text Begun is = subst IsUtf8 (sym is) (low_utf8 (codes "begun\n") ref
 utf8_spelt text (Closed region blocks number pack) (within, is) =
     let rest = utf8_numbers region blocks number pack (codes "\n") within (low_utf8 (codes "\n") refl) in
     subst IsUtf8 (sym is) (IsUtf8-append (codes "closed ") (numbers_text region blocks number pack (codes "\n")) (low_utf8 (codes "closed ") refl) rest)
-utf8_spelt text (Saved region blocks number pack salt) (within, bytes, is) =
-    let end = codes " " ++ salt_text salt in
-    let rest = utf8_numbers region blocks number pack end within (utf8_salt salt) in
+utf8_spelt text (Saved region blocks number pack salt check) (within, salts, checks, is) =
+    let end = codes " " ++ salts_text salt check in
+    let rest = utf8_numbers region blocks number pack end within (utf8_salts salt check) in
     subst IsUtf8 (sym is) (IsUtf8-append (codes "saved ") (numbers_text region blocks number pack end) (low_utf8 (codes "saved ") refl) rest)
 
 -- what a test refuses only where it isn't so
@@ -117,13 +147,13 @@ accepted (Err e) P Q x is so = absurd (cc is)
 -- what reads the lines of a closing reads all but these two
 pub reads_others : (line : List ℕ) (r : Option Mark) → (line ≡ codes "in use\n" → ⊥) → (line ≡ codes "begun\n" → ⊥)
     → ((region blocks number pack : ℕ) → Spells line (Closed region blocks number pack) → r ≡ Some (Closed region blocks number pack))
-    → ((region blocks number pack : ℕ) (salt : List ℕ) → Spells line (Saved region blocks number pack salt) → r ≡ Some (Saved region blocks number pack salt))
+    → ((region blocks number pack : ℕ) (salt check : List ℕ) → Spells line (Saved region blocks number pack salt check) → r ≡ Some (Saved region blocks number pack salt check))
     → (mark : Mark) → Spells line mark → r ≡ Some mark
 reads_others line r used begun closed saved Fresh is = absurd is
 reads_others line r used begun closed saved InUse is = absurd (used is)
 reads_others line r used begun closed saved Begun is = absurd (begun is)
 reads_others line r used begun closed saved (Closed region blocks number pack) is = closed region blocks number pack is
-reads_others line r used begun closed saved (Saved region blocks number pack salt) is = saved region blocks number pack salt is
+reads_others line r used begun closed saved (Saved region blocks number pack salt check) is = saved region blocks number pack salt check is
 
 -- ---- a salt's digits, by what their decoding answers
 abbrev pub Decodes : List ℕ → Result Unit FromHexError → List ℕ → Type 0

@@ -1,28 +1,39 @@
 //! The mark of a store, in a file.
-ghost use Rattle.std.specs.Prelude.{◌≡◌, ◌≤◌, IfOk, length, None};
+ghost use Rattle.std.specs.Prelude.{◌≡◌, Err, IfOk, MatchResult, None, Ok, length};
 ghost use Rattle.ob_reopen.specs.Keepers.{AreSaltBytes, IsMark};
 
+use crate::complaint::Complaint;
 use crate::folder::{RegionFiles, settle, split_path};
-use crate::mark::{mark_of, spell};
+use crate::identity::{Held, goes_with, held_of, spell_held};
 use crate::region::clear;
-use ob_base::{Failed, Mark, NoMemory};
-use ob_reopen::{Keeper, Salts};
+use crate::text::{LONG, read_text, rename, write_text};
+use ob_base::{Failed, NoMemory};
+use ob_reopen::{Keeper, Mark, Salts};
 use std::alloc::Global;
-use std::fs;
-use std::fs::{File, OpenFile, OpenOptions, symlink_metadata};
-use std::io::{ErrorKind, Read};
+use std::io;
+use std::io::{Error, ErrorKind};
+use std::mem::swap;
 use std::random::RandomSource;
 use std::rt::Files;
 
-/// More bytes than the line of a mark has.
-const LONG: usize = 128;
+/// What a call of a keeper failed at.
+#[derive(Clone, Copy)]
+enum Part {
+    Mark,
+    Beside,
+    Folder,
+    Regions,
+    Random,
+}
 
 /// What keeps the mark of a store in a file. Which mark it holds is not told: others may change the file at any time.
 ///
-/// No file is a fresh mark, else it is one line. A new line is written beside, as `PLACE.next`, and takes the file's
-/// place once it is on the disk; before it says that a run was closed, all files of the store are. Before it says that
-/// tables were saved the store has seen to that. No link is followed.
-/// Each error of a file, what isn't a file, and a file that spells no mark is `Failed`.
+/// No file is a fresh mark, else it is one line, and a second one that names the store where it has an identity. A new text
+/// is written beside, as `PLACE.next`, and takes the file's place once it is on the disk, if the file is still as this
+/// keeper found or left it; before it says that a run was closed, all files of the store are on the disk. Before it says
+/// that tables were saved the store has seen to that. No link is followed.
+/// Each error of a file, what isn't a file, a file that others may write, one that spells no mark, and the mark of another
+/// store is `Failed`.
 #[derive(Drop)]
 pub struct FileKeeper<'a, R: Files> {
     files: &'a R,
@@ -30,22 +41,14 @@ pub struct FileKeeper<'a, R: Files> {
     folder: String,
     path: String,
     beside: String,
+    id: Option<[u8; 16]>,
+    // what the file had when it was read last, or written
+    left: Vec<u8>,
+    text: Vec<u8>,
     faults: u64,
-}
-
-// Reads a file from its first byte on, until it ends or the buffer is full, and tells how many bytes there were.
-fn fill<F: Read>(file: &mut F, buffer: &mut [u8]) -> Result<usize, Failed>
-    ensures { IfOk result (λ len. len ≤ length buffer.new) }
-{
-    let mut len = 0;
-    while len < buffer.len() {
-        match file.read(&mut buffer[len..]) {
-            Ok(0) => return Ok(len),
-            Ok(more) => len += more,
-            Err(_) => return Err(Failed),
-        }
-    }
-    Ok(len)
+    trouble: Option<(Part, Error)>,
+    // the mark that was told last
+    told: Option<Mark>,
 }
 
 // A salt of these bytes.
@@ -59,14 +62,34 @@ fn salt_of(bytes: &[u8]) -> [u8; 16]
     salt
 }
 
+/// Random bytes of the operating system.
+pub fn drawn<R: RandomSource>(source: &R) -> io::Result<[u8; 16]>
+    ensures { IfOk result AreSaltBytes }
+{
+    let mut bytes = [0; 16];
+    source.fill_bytes(&mut bytes)?;
+    Ok(salt_of(&bytes))
+}
+
+// What a call of a part answers.
+fn at<T>(part: Part, given: io::Result<T>) -> Result<T, (Part, Error)>
+    ensures { MatchResult given (λ value. result ≡ Ok value) (λ e. result ≡ Err (part, e)) }
+{
+    match given {
+        Ok(value) => Ok(value),
+        Err(error) => Err((part, error)),
+    }
+}
+
 impl<'a, R: Files> FileKeeper<'a, R> {
-    /// The keeper of a store whose files have names that begin with this one and a dot, with its mark in the file of
-    /// this path. It takes all its memory of `alloc` here.
+    /// The keeper of a store whose regions' files have names that begin with this one and a dot, with its mark in the file
+    /// of this path. The mark names the store where it has an identity. It takes all its memory of `alloc` here.
     pub fn new(
         alloc: Global,
         files: &'a R,
         name: String,
         path: String,
+        id: Option<[u8; 16]>,
     ) -> Result<FileKeeper<'a, R>, NoMemory>
         ensures { IfOk result (λ k. (⟦<FileKeeper<'a, R> as Keeper>⟧.state k).faults ≡ 0) }
     {
@@ -76,79 +99,162 @@ impl<'a, R: Files> FileKeeper<'a, R> {
         let Ok(beside) = format!(in alloc; "{}.next", path) else {
             return Err(NoMemory);
         };
+        let (Ok(left), Ok(text)) = (
+            Vec::with_capacity(alloc, LONG),
+            Vec::with_capacity(alloc, LONG),
+        ) else {
+            return Err(NoMemory);
+        };
         Ok(FileKeeper {
             files,
             regions: RegionFiles::new(alloc, files, name)?,
             folder,
             path,
             beside,
+            id,
+            left,
+            text,
             faults: 0,
+            trouble: None,
+            told: None,
         })
     }
 
-    // The mark that the file spells.
-    fn held(&self) -> Result<Mark, Failed>
+    /// Says what the last call failed at that did.
+    pub fn complain(&self, complaint: &mut Complaint) {
+        if let Some((part, error)) = self.trouble {
+            let place = match part {
+                Part::Mark => self.path.as_str(),
+                Part::Beside => self.beside.as_str(),
+                Part::Folder => self.folder.as_str(),
+                Part::Regions => self.regions.name(),
+                Part::Random => "the system's random source",
+            };
+            complaint.say(&[place], error);
+        }
+    }
+
+    /// Says why a run doesn't go on whose blocks have so many rows, by the mark that it found; where it asked for none, its
+    /// secret is none.
+    pub fn explain(&self, pack: u8, complaint: &mut Complaint) {
+        let place = self.path.as_str();
+        let reason = match self.told {
+            None => {
+                let reason = Error::other(
+                    "the first line is no secret, which is 64 hexadecimal digits",
+                );
+                return complaint.say(&["the input"], reason);
+            }
+            Some(Mark::InUse) => "a run with --keep is at work, or was not closed",
+            Some(Mark::Fresh) => "the mark isn't there, and the store has tables",
+            Some(Mark::Begun) => "its tables are saved: --save goes on with them",
+            Some(Mark::Saved { .. }) if self.id.is_none() => {
+                "its tables are saved: --save goes on with them"
+            }
+            Some(Mark::Closed { pack: held, .. } | Mark::Saved { pack: held, .. }) => {
+                if pack == held {
+                    "its tables were saved under another secret"
+                } else {
+                    "its tables have another number of rows in a block: see --pack"
+                }
+            }
+        };
+        complaint.say(&[place], Error::other(reason));
+    }
+
+    // The mark that the text has which was read.
+    fn mark_read(&self) -> io::Result<Mark>
         ensures { IfOk result IsMark }
     {
-        match symlink_metadata(self.files, self.path.as_str()) {
-            Ok(found) if found.is_file() => {}
-            Err(error) if error.kind() == ErrorKind::NotFound => return Ok(Mark::Fresh),
-            Ok(_) | Err(_) => return Err(Failed),
+        if self.left.is_empty() {
+            return Ok(Mark::Fresh);
         }
-        let Ok(mut file) = File::open(self.files, self.path.as_str()) else {
-            return Err(Failed);
-        };
-        let mut line = [0; LONG];
-        let len = fill(&mut file, &mut line)?;
-        match mark_of(&line[..len]) {
-            Some(mark) => Ok(mark),
-            None => Err(Failed),
+        match held_of(&self.left) {
+            None => Err(Error::other("it is no mark of this version")),
+            Some(held) => {
+                if goes_with(&held, self.id) {
+                    Ok(held.mark)
+                } else {
+                    Err(Error::other("it is the mark of another store"))
+                }
+            }
         }
     }
 
-    // Waits until the name of the mark is on the disk.
-    fn settle_name(&self) -> Result<(), Failed> {
-        settle(self.files, self.folder.as_str())
+    // The mark that the file spells. What is done by a mark is not to outlive it: a run that was killed may have left its
+    // name in memory alone.
+    fn held(&mut self) -> Result<Mark, (Part, Error)>
+        ensures mark { IfOk result IsMark }
+        ensures faults { self.new.faults ≡ self.old.faults }
+    {
+        at(Part::Folder, settle(self.files, self.folder.as_str()))?;
+        at(
+            Part::Mark,
+            read_text(self.files, self.path.as_str(), &mut self.left),
+        )?;
+        at(Part::Mark, self.mark_read())
     }
 
-    // Puts a line in the place of the file's.
-    fn replace(&self, mark: &Mark) -> Result<(), Failed> {
-        clear(self.files, self.beside.as_str())?;
-        let opened = OpenOptions::new()
-            .write(true)
-            .create_new(true)
-            .open(self.files, self.beside.as_str());
-        let Ok(mut file) = opened else {
-            return Err(Failed);
+    // Looks whether the file is as it was left.
+    fn compare(&mut self) -> io::Result<()>
+        ensures { self.new.faults ≡ self.old.faults }
+    {
+        read_text(self.files, self.path.as_str(), &mut self.text)?;
+        if self.text.as_slice() == self.left.as_slice() {
+            Ok(())
+        } else {
+            Err(Error::other("another run has changed it"))
+        }
+    }
+
+    // Writes another text beside the file's.
+    fn write(&mut self, mark: &Mark) -> io::Result<()>
+        ensures { self.new.faults ≡ self.old.faults }
+    {
+        self.text.clear();
+        let held = Held {
+            mark: *mark,
+            id: self.id,
         };
-        spell(&mut file, mark)?;
-        if file.sync_all().is_err() {
-            return Err(Failed);
+        if spell_held(&mut self.text, &held).is_err() {
+            return Err(Error::from(ErrorKind::OutOfMemory));
         }
-        match fs::rename(self.files, self.beside.as_str(), self.path.as_str()) {
-            Ok(()) => self.settle_name(),
-            Err(_) => Err(Failed),
-        }
+        write_text(self.files, self.beside.as_str(), &self.text)
+    }
+
+    // Puts a text in the place of the file's.
+    fn replace(&mut self, mark: &Mark) -> Result<(), (Part, Error)>
+        ensures { self.new.faults ≡ self.old.faults }
+    {
+        at(Part::Mark, self.compare())?;
+        at(Part::Beside, self.write(mark))?;
+        at(
+            Part::Mark,
+            rename(self.files, self.beside.as_str(), self.path.as_str()),
+        )?;
+        swap(&mut self.left, &mut self.text);
+        at(Part::Folder, settle(self.files, self.folder.as_str()))
     }
 
     // Takes the file away, if there is one.
-    fn remove(&self) -> Result<(), Failed> {
-        match fs::remove_file(self.files, self.path.as_str()) {
-            Ok(()) => self.settle_name(),
-            Err(error) if error.kind() == ErrorKind::NotFound => self.settle_name(),
-            Err(_) => Err(Failed),
-        }
+    fn remove(&mut self) -> Result<(), (Part, Error)>
+        ensures { self.new.faults ≡ self.old.faults }
+    {
+        at(Part::Mark, self.compare())?;
+        at(Part::Mark, clear(self.files, self.path.as_str()))?;
+        self.left.clear();
+        at(Part::Folder, settle(self.files, self.folder.as_str()))
     }
 
     // Holds another mark from now on.
-    fn hold(&mut self, mark: &Mark) -> Result<(), Failed>
+    fn hold(&mut self, mark: &Mark) -> Result<(), (Part, Error)>
         ensures { self.new.faults ≡ self.old.faults }
     {
         match mark {
             Mark::Fresh => self.remove(),
             Mark::InUse | Mark::Begun | Mark::Saved { .. } => self.replace(mark),
             Mark::Closed { .. } => {
-                self.regions.settle_all()?;
+                at(Part::Regions, self.regions.settle_all())?;
                 self.replace(mark)
             }
         }
@@ -159,34 +265,39 @@ impl<'a, R: Files> Keeper for FileKeeper<'a, R> {
     ghost state = { λ k. record { held = None; faults = k.faults } };
 
     fn mark(&mut self) -> Result<Mark, Failed> {
-        // What is done by a mark is not to outlive it: a run that was killed may have left its name in memory alone.
-        let held = match self.settle_name() {
-            Ok(()) => self.held(),
-            Err(error) => Err(error),
-        };
-        if held.is_err() {
-            self.faults = self.faults.saturating_add(1);
+        match self.held() {
+            Ok(mark) => {
+                self.told = Some(mark);
+                Ok(mark)
+            }
+            Err(unread) => {
+                self.faults = self.faults.saturating_add(1);
+                self.trouble = Some(unread);
+                Err(Failed)
+            }
         }
-        held
     }
 
     fn set(&mut self, mark: &Mark) -> Result<(), Failed> {
-        let done = self.hold(mark);
-        if done.is_err() {
-            self.faults = self.faults.saturating_add(1);
+        match self.hold(mark) {
+            Ok(()) => Ok(()),
+            Err(unset) => {
+                self.faults = self.faults.saturating_add(1);
+                self.trouble = Some(unset);
+                Err(Failed)
+            }
         }
-        done
     }
 }
 
 /// Salts are random bytes of the operating system.
 impl<'a, R: Files + RandomSource> Salts for FileKeeper<'a, R> {
     fn salt(&mut self) -> Result<[u8; 16], Failed> {
-        let mut salt = [0; 16];
-        match self.files.fill_bytes(&mut salt) {
-            Ok(()) => Ok(salt_of(&salt)),
-            Err(_) => {
+        match drawn(self.files) {
+            Ok(salt) => Ok(salt),
+            Err(error) => {
                 self.faults = self.faults.saturating_add(1);
+                self.trouble = Some((Part::Random, error));
                 Err(Failed)
             }
         }

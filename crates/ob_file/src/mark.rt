@@ -2,20 +2,21 @@
 ghost use Rattle.std.specs.Prelude.{◌≡◌, ◌<◌, ◌^◌, ◌++◌, ◌∷◌, ℕ, List, codes, decimal, MatchOption, IfSome, Some, OnOk};
 ghost use Rattle.std.specs.Io.KnownBytes.{Appends};
 ghost use Rattle.hex.specs.Hex.{encode_lower};
-ghost use Rattle.ob_base.specs.declared.mark.Mark.{Mark as HeldMark};
+ghost use Rattle.ob_reopen.specs.declared.mark.Mark.{Mark as HeldMark};
 ghost use Rattle.ob_reopen.specs.Keepers.{AreMarked, AreSaltBytes};
-ghost use Rattle.ob_file.specs.Marks.{HasNoBlank, Spells, mark_text, numbers_text, salt_text};
+ghost use Rattle.ob_file.specs.Marks.{HasNoBlank, Spells, mark_text, bytes_text, numbers_text, salts_text};
 
 use itoa::{Buffer, Integer};
-use ob_base::{Failed, Mark};
+use ob_base::Failed;
+use ob_reopen::Mark;
 use std::io::Write;
 use std::str;
 
 /// The numbers of a closing's region and of its first write are below this one.
 const END: u64 = 1 << 63;
 
-// Writes all of a piece.
-fn put<W: Write>(out: &mut W, piece: &[u8]) -> Result<(), Failed>
+/// Writes all of a piece.
+pub(crate) fn put<W: Write>(out: &mut W, piece: &[u8]) -> Result<(), Failed>
     ensures { OnOk result (Appends (W.contents out.old) (W.contents out.new) piece.now) }
 {
     match out.write_all(piece) {
@@ -34,17 +35,26 @@ fn put_number<W: Write, I: Integer>(out: &mut W, n: I, end: &[u8]) -> Result<(),
     put(out, end)
 }
 
-// Writes the digits of a salt, and the end of the line.
-fn put_salt<W: Write>(out: &mut W, salt: &[u8; 16]) -> Result<(), Failed>
+/// Writes the digits of 16 bytes, and what follows them.
+pub(crate) fn put_digits<W: Write>(out: &mut W, bytes: &[u8; 16], end: &[u8]) -> Result<(), Failed>
     ensures { OnOk result
-        (Appends (W.contents out.old) (W.contents out.new) (salt_text salt.now)) }
+        (Appends (W.contents out.old) (W.contents out.new) (encode_lower bytes.now ++ end.now)) }
 {
     let mut digits = [0; 32];
-    let Ok(()) = hex::encode_to_slice(salt, &mut digits) else {
+    let Ok(()) = hex::encode_to_slice(bytes, &mut digits) else {
         unreachable!()
     };
     put(out, &digits)?;
-    put(out, b"\n")
+    put(out, end)
+}
+
+// Writes the digits of a salt and of a check value, and the end of the line.
+fn put_salts<W: Write>(out: &mut W, salt: &[u8; 16], check: &[u8; 16]) -> Result<(), Failed>
+    ensures { OnOk result
+        (Appends (W.contents out.old) (W.contents out.new) (salts_text salt.now check.now)) }
+{
+    put_digits(out, salt, b" ")?;
+    put_digits(out, check, b"\n")
 }
 
 /// Writes the line of a mark, or nothing of a fresh one. `Failed` where `out` did.
@@ -74,13 +84,14 @@ pub fn spell<W: Write>(out: &mut W, mark: &Mark) -> Result<(), Failed>
             number,
             pack,
             salt,
+            check,
         } => {
             put(out, b"saved ")?;
             put_number(out, region, b" ")?;
             put_number(out, blocks, b" ")?;
             put_number(out, number, b" ")?;
             put_number(out, pack, b" ")?;
-            put_salt(out, &salt)
+            put_salts(out, &salt, &check)
         }
     }
 }
@@ -94,8 +105,8 @@ fn word(text: &str) -> Option<(&str, &str)>
     text.split_once(' ')
 }
 
-// The number that is spelt so, in decimal and in no other way.
-fn number_of(digits: &str) -> Option<u64>
+/// The number that is spelt so, in decimal and in no other way.
+pub(crate) fn number_of(digits: &str) -> Option<u64>
     ensures spelt { IfSome result (λ n. digits.now ≡ decimal n) }
     ensures read { (n : ℕ) → n < 2 ^ 64 → digits.now ≡ decimal n → result ≡ Some n }
 {
@@ -126,34 +137,47 @@ fn last_number(text: &str) -> Option<u64>
     number_of(text.strip_suffix('\n')?)
 }
 
-// The salt that is spelt so, in 32 digits of lower case and in no other way.
-fn salt_of(digits: &str) -> Option<[u8; 16]>
-    ensures spelt { IfSome result (λ salt. (digits.now ≡ encode_lower salt) × AreSaltBytes salt) }
-    ensures read { (salt : List ℕ) → AreSaltBytes salt → digits.now ≡ encode_lower salt
-        → result ≡ Some salt }
+// The 16 bytes that are spelt so, in 32 digits of lower case and in no other way.
+fn bytes_of(digits: &str) -> Option<[u8; 16]>
+    ensures spelt { IfSome result (λ bytes. (digits.now ≡ encode_lower bytes) × AreSaltBytes bytes) }
+    ensures read { (bytes : List ℕ) → AreSaltBytes bytes → digits.now ≡ encode_lower bytes
+        → result ≡ Some bytes }
 {
-    let mut salt = [0; 16];
-    let Ok(()) = hex::decode_to_slice(digits.as_bytes(), &mut salt) else {
+    let mut bytes = [0; 16];
+    let Ok(()) = hex::decode_to_slice(digits.as_bytes(), &mut bytes) else {
         return None;
     };
     let mut spelt = [0; 32];
-    let Ok(()) = hex::encode_to_slice(&salt, &mut spelt) else {
+    let Ok(()) = hex::encode_to_slice(&bytes, &mut spelt) else {
         unreachable!()
     };
     if digits.as_bytes() == spelt.as_slice() {
-        Some(salt)
+        Some(bytes)
     } else {
         None
     }
 }
 
-// The salt that a line ends with.
-fn last_salt(text: &str) -> Option<[u8; 16]>
-    ensures spelt { IfSome result (λ salt. (text.now ≡ salt_text salt) × AreSaltBytes salt) }
-    ensures read { (salt : List ℕ) → AreSaltBytes salt → text.now ≡ salt_text salt
-        → result ≡ Some salt }
+// The 16 bytes before a text's first blank, and what is behind it.
+fn salted(text: &str) -> Option<([u8; 16], &str)>
+    ensures spelt { IfSome result (λ r.
+        (text.now ≡ encode_lower r.0 ++ 32 ∷ r.1.now) × AreSaltBytes r.0) }
+    ensures read { (salt rest : List ℕ) → AreSaltBytes salt
+        → text.now ≡ encode_lower salt ++ 32 ∷ rest
+        → MatchOption result ⊥ (λ r. (r.0 ≡ salt) × (r.1.now ≡ rest)) }
 {
-    salt_of(text.strip_suffix('\n')?)
+    let (digits, rest) = word(text)?;
+    Some((bytes_of(digits)?, rest))
+}
+
+/// The 16 bytes that a line ends with.
+pub(crate) fn last_bytes(text: &str) -> Option<[u8; 16]>
+    ensures spelt { IfSome result (λ bytes.
+        (text.now ≡ bytes_text bytes) × AreSaltBytes bytes) }
+    ensures read { (bytes : List ℕ) → AreSaltBytes bytes → text.now ≡ bytes_text bytes
+        → result ≡ Some bytes }
+{
+    bytes_of(text.strip_suffix('\n')?)
 }
 
 // How many blocks a closing has, and how many rows a block, if a mark may name one with these numbers.
@@ -192,16 +216,17 @@ fn closed_of(text: &str) -> Option<Mark>
 // The same of a run that saved its tables.
 fn saved_of(text: &str) -> Option<Mark>
     ensures spelt { IfSome result (Spells (codes "saved " ++ text.now)) }
-    ensures read { (region blocks number pack : ℕ) (salt : List ℕ)
-        → AreMarked region blocks number pack → AreSaltBytes salt
-        → text.now ≡ numbers_text region blocks number pack (codes " " ++ salt_text salt)
-        → result ≡ Some (Mark.Saved region blocks number pack salt) }
+    ensures read { (region blocks number pack : ℕ) (salt check : List ℕ)
+        → AreMarked region blocks number pack → AreSaltBytes salt → AreSaltBytes check
+        → text.now ≡ numbers_text region blocks number pack (codes " " ++ salts_text salt check)
+        → result ≡ Some (Mark.Saved region blocks number pack salt check) }
 {
     let (region, rest) = numbered(text)?;
     let (blocks, rest) = numbered(rest)?;
     let (number, rest) = numbered(rest)?;
     let (pack, rest) = numbered(rest)?;
-    let salt = last_salt(rest)?;
+    let (salt, rest) = salted(rest)?;
+    let check = last_bytes(rest)?;
     let (count, rows) = sizes_of(region, blocks, number, pack)?;
     Some(Mark::Saved {
         region,
@@ -209,6 +234,7 @@ fn saved_of(text: &str) -> Option<Mark>
         number,
         pack: rows,
         salt,
+        check,
     })
 }
 
@@ -218,9 +244,9 @@ fn named_of(line: &str) -> Option<Mark>
     ensures closed { (region blocks number pack : ℕ)
         → Spells line.now (Mark.Closed region blocks number pack)
         → result ≡ Some (Mark.Closed region blocks number pack) }
-    ensures saved { (region blocks number pack : ℕ) (salt : List ℕ)
-        → Spells line.now (Mark.Saved region blocks number pack salt)
-        → result ≡ Some (Mark.Saved region blocks number pack salt) }
+    ensures saved { (region blocks number pack : ℕ) (salt check : List ℕ)
+        → Spells line.now (Mark.Saved region blocks number pack salt check)
+        → result ≡ Some (Mark.Saved region blocks number pack salt check) }
 {
     let (head, rest) = word(line)?;
     if head == "closed" {

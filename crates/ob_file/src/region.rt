@@ -1,11 +1,14 @@
 //! A region in a file of its own.
 ghost use Rattle.std.specs.Prelude.{◌≡◌, ◌≤◌, ◌*◌, length};
 
-use ob_base::Failed;
 use std::fs::{OpenFile, OpenOptions, remove_file, symlink_metadata};
-use std::io::ErrorKind;
-use std::os::unix::fs::FileExt;
+use std::io;
+use std::io::{Error, ErrorKind};
+use std::os::unix::fs::{FileExt, MetadataExt, OpenOptionsExt};
 use std::rt::Files;
+
+/// The mode of the files that are made: they are their user's alone.
+pub const MODE: u32 = 0o600;
 
 /// The size of a region: how many blocks it has, and their length.
 #[derive(Drop)]
@@ -23,25 +26,47 @@ pub struct Opened<F> {
 }
 
 /// Takes away what has this name, if anything has.
-pub fn clear<R: Files>(files: &R, path: &str) -> Result<(), Failed> {
+pub fn clear<R: Files>(files: &R, path: &str) -> io::Result<()> {
     match remove_file(files, path) {
         Ok(()) => Ok(()),
         Err(error) if error.kind() == ErrorKind::NotFound => Ok(()),
-        Err(_) => Err(Failed),
+        Err(error) => Err(error),
     }
 }
 
-/// Makes the file of a region anew, in the place of what has its name. No link is followed.
-pub fn create<R: Files>(files: &R, path: &str) -> Result<R::File, Failed> {
-    clear(files, path)?;
-    let opened = OpenOptions::new()
+/// Makes a file where nothing is. No link is followed.
+pub fn make_new<R: Files>(files: &R, path: &str) -> io::Result<R::File> {
+    OpenOptions::new()
         .read(true)
         .write(true)
         .create_new(true)
-        .open(files, path);
-    match opened {
-        Ok(file) => Ok(file),
-        Err(_) => Err(Failed),
+        .mode(MODE)
+        .open(files, path)
+}
+
+/// Makes a file anew, in the place of what has its name. No link is followed.
+pub fn create<R: Files>(files: &R, path: &str) -> io::Result<R::File> {
+    clear(files, path)?;
+    make_new(files, path)
+}
+
+/// Whether an open file is still the one that has its name: others may have taken it away.
+pub fn is_named<R: Files, F: OpenFile>(files: &R, file: &F, path: &str) -> io::Result<bool> {
+    let held = file.metadata()?;
+    match symlink_metadata(files, path) {
+        Ok(found) => Ok(found.ino() == held.ino() && found.dev() == held.dev()),
+        Err(error) if error.kind() == ErrorKind::NotFound => Ok(false),
+        Err(error) => Err(error),
+    }
+}
+
+/// Waits until all of a region's file is on the disk, and looks whether it still has its name.
+pub fn settle_region<R: Files>(files: &R, opened: &Opened<R::File>) -> io::Result<()> {
+    opened.file.sync_all()?;
+    if is_named(files, &opened.file, opened.path.as_str())? {
+        Ok(())
+    } else {
+        Err(Error::other("it was taken away"))
     }
 }
 
@@ -51,18 +76,26 @@ pub fn remove<R: Files>(files: &R, opened: Opened<R::File>) {
     let _ = remove_file(files, opened.path.as_str());
 }
 
-/// Opens the file that a region of an earlier run has, of so many bytes. A link isn't followed, and nothing is waited for.
-pub fn reopen<R: Files>(files: &R, path: &str, size: u64) -> Result<R::File, Failed> {
-    match symlink_metadata(files, path) {
-        Ok(found) if found.is_file() => {}
-        Ok(_) | Err(_) => return Err(Failed),
+/// Opens a file to be read and written. A link isn't followed, and nothing is waited for.
+pub fn open_file<R: Files>(files: &R, path: &str) -> io::Result<R::File> {
+    if !symlink_metadata(files, path)?.is_file() {
+        return Err(Error::other("it isn't a file"));
     }
-    let Ok(file) = OpenOptions::new().read(true).write(true).open(files, path) else {
-        return Err(Failed);
-    };
-    match file.metadata() {
-        Ok(found) if found.is_file() && found.len() == size => Ok(file),
-        Ok(_) | Err(_) => Err(Failed),
+    let file = OpenOptions::new().read(true).write(true).open(files, path)?;
+    if file.metadata()?.is_file() {
+        Ok(file)
+    } else {
+        Err(Error::other("it isn't a file"))
+    }
+}
+
+/// Opens the file that a region of an earlier run has, of so many bytes. A link isn't followed, and nothing is waited for.
+pub fn reopen<R: Files>(files: &R, path: &str, size: u64) -> io::Result<R::File> {
+    let file = open_file(files, path)?;
+    if file.metadata()?.len() == size {
+        Ok(file)
+    } else {
+        Err(Error::other("it hasn't the length of its blocks"))
     }
 }
 
@@ -75,22 +108,16 @@ pub fn start_of(place: u32, len: usize) -> u64
 }
 
 /// Reads the bytes at a block's place, which are as many as `buf` has.
-pub fn read<F: FileExt>(file: &F, place: u32, buf: &mut [u8]) -> Result<(), Failed>
+pub fn read<F: FileExt>(file: &F, place: u32, buf: &mut [u8]) -> io::Result<()>
     requires { length buf.old ≤ 16416 }
     ensures { length buf.new ≡ length buf.old }
 {
-    match file.read_exact_at(buf, start_of(place, buf.len())) {
-        Ok(()) => Ok(()),
-        Err(_) => Err(Failed),
-    }
+    file.read_exact_at(buf, start_of(place, buf.len()))
 }
 
 /// Writes a block at its place.
-pub fn write<F: FileExt>(file: &F, place: u32, block: &[u8]) -> Result<(), Failed>
+pub fn write<F: FileExt>(file: &F, place: u32, block: &[u8]) -> io::Result<()>
     requires { length block.now ≤ 16416 }
 {
-    match file.write_all_at(block, start_of(place, block.len())) {
-        Ok(()) => Ok(()),
-        Err(_) => Err(Failed),
-    }
+    file.write_all_at(block, start_of(place, block.len()))
 }

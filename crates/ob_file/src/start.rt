@@ -1,29 +1,32 @@
-//! What has to hold of a store's files before a run begins.
-ghost use Rattle.std.specs.Prelude.{◌≡◌, ◌++◌, IfOk, codes, string_bytes};
-ghost use Rattle.ob_file.specs.Starts.{start_line, start_status};
+//! How a run ends before anything is read, and what is found before it begins.
+ghost use Rattle.std.specs.Prelude.{◌≡◌};
+ghost use Rattle.ob_file.specs.Starts.{anew_refusal, keep_refusal, marked_refusal, save_refusal, start_line, start_status, unmarked_refusal};
 ghost use Rattle.ob_file.specs.declared.start.StartErr.TheVariants.{NoMemory as WantsMemory};
 
-use crate::folder::{RegionFiles, split_path};
+use crate::complaint::Complaint;
 use ob_base::NoMemory;
-use std::alloc::Global;
-use std::fs::{File, OpenFile, OpenOptions, TryLockError, symlink_metadata};
-use std::io::ErrorKind;
-use std::rt::Files;
+use std::io::{Error, ErrorKind};
 
 /// Why a run ends before anything is read.
 #[derive(Clone, Copy, Debug, PartialEq, Eq)]
 pub enum StartErr {
     /// The words are none that the program takes.
     Usage,
-    /// The tables of the store are kept, and this run wouldn't keep its own.
+    /// The tables of the store are kept or saved, and this run wouldn't keep its own.
     Kept,
     /// Memory ran out.
     NoMemory,
-    /// Another run keeps its tables at the same mark, and is at work.
+    /// Another run is at work at the same mark, or in the same store.
     AtWork,
     /// There are regions of the store, and no mark.
     NoMark,
-    /// Where the mark lies, or what has the name of a region, can't be told.
+    /// The folder isn't that of a store.
+    NoStore,
+    /// The mark is that of another store.
+    OtherStore,
+    /// The store's files have another form.
+    Version,
+    /// The file system failed, or something isn't what it should be.
     Failed,
 }
 
@@ -35,7 +38,11 @@ impl StartErr {
         match self {
             StartErr::Usage | StartErr::Kept => 2,
             StartErr::NoMemory => 7,
-            StartErr::AtWork | StartErr::NoMark => 9,
+            StartErr::AtWork
+            | StartErr::NoMark
+            | StartErr::NoStore
+            | StartErr::OtherStore
+            | StartErr::Version => 9,
             StartErr::Failed => 10,
         }
     }
@@ -50,7 +57,26 @@ impl StartErr {
             StartErr::NoMemory => "! no memory\n",
             StartErr::AtWork => "! not closed\n",
             StartErr::NoMark => "! no mark\n",
+            StartErr::NoStore => "! no store\n",
+            StartErr::OtherStore => "! other store\n",
+            StartErr::Version => "! version\n",
             StartErr::Failed => "! keeper fault\n",
+        }
+    }
+
+    // What isn't right, in words.
+    fn reason(self) -> &'static str {
+        match self {
+            StartErr::Usage => "the words are none",
+            StartErr::Kept =>
+                "something lies there that a run without --save or --keep isn't to change",
+            StartErr::NoMemory => "out of memory",
+            StartErr::AtWork => "another run is at work",
+            StartErr::NoMark => "the mark isn't there, and the store has tables",
+            StartErr::NoStore => "it isn't a folder that a run with --save made",
+            StartErr::OtherStore => "it is the mark of another store",
+            StartErr::Version => "its files have another form than form 1, which this program has",
+            StartErr::Failed => "it isn't as it should be",
         }
     }
 }
@@ -63,111 +89,136 @@ impl From<NoMemory> for StartErr {
     }
 }
 
-// A path and what follows it.
-fn with_ending(alloc: Global, path: &str, ending: &str) -> Result<String, NoMemory>
-    ensures { IfOk result (λ longer. string_bytes longer ≡ path.now ++ ending.now) }
+/// Says of a place why a run ends by it.
+pub(crate) fn refuse(said: &mut Complaint, place: &str, error: StartErr) -> StartErr
+    ensures { result ≡ error }
 {
-    match format!(in alloc; "{}{}", path, ending) {
-        Ok(longer) => Ok(longer),
-        Err(_) => Err(NoMemory),
-    }
+    said.say(&[place], Error::other(error.reason()));
+    error
 }
 
-/// Where the mark of the store with this name lies, if nothing else is said: beside its files, as `NAME.mark`.
-pub fn mark_beside(alloc: Global, name: &str) -> Result<String, NoMemory>
-    ensures { IfOk result (λ place. string_bytes place ≡ name.now ++ codes ".mark") }
-{
-    with_ending(alloc, name, ".mark")
-}
-
-/// Where a link of this path points; the path itself where there is no link, and nothing. Only one link is followed.
-/// `Failed` where it can't be read.
-pub fn follow<R: Files>(alloc: Global, files: &R, path: String) -> Result<String, StartErr> {
-    let link = match files.read_link(alloc, path.as_str()) {
-        Ok(link) => link,
-        Err(error) => {
-            return match error.kind() {
-                ErrorKind::NotFound | ErrorKind::InvalidInput => Ok(path),
-                ErrorKind::OutOfMemory => Err(StartErr::NoMemory),
-                _ => Err(StartErr::Failed),
-            };
-        }
-    };
-    let target = link.as_str();
-    let folder = if target.starts_with('/') {
-        ""
+/// Says of a place that a call failed there.
+pub(crate) fn fail(said: &mut Complaint, place: &str, error: Error) -> StartErr {
+    said.say(&[place], error);
+    if error.kind() == ErrorKind::OutOfMemory {
+        StartErr::NoMemory
     } else {
-        split_path(path.as_str()).0
-    };
-    Ok(with_ending(alloc, folder, target)?)
-}
-
-// Opens the file at a path, which is made where nothing is there. No link is followed, and nothing is waited for.
-fn open_lock<R: Files>(files: &R, path: &str) -> Result<R::File, StartErr> {
-    let made = OpenOptions::new()
-        .read(true)
-        .write(true)
-        .create_new(true)
-        .open(files, path);
-    match made {
-        Ok(file) => return Ok(file),
-        Err(error) if error.kind() == ErrorKind::AlreadyExists => {}
-        Err(_) => return Err(StartErr::Failed),
-    }
-    match symlink_metadata(files, path) {
-        Ok(found) if found.is_file() => {}
-        Ok(_) | Err(_) => return Err(StartErr::Failed),
-    }
-    match OpenOptions::new().read(true).write(true).open(files, path) {
-        Ok(file) => Ok(file),
-        Err(_) => Err(StartErr::Failed),
+        StartErr::Failed
     }
 }
 
-/// Keeps other runs away from the mark at a place, for as long as the file that it answers is open: the file is
-/// `PLACE.lock`, and stays. `AtWork` where another run has it.
-pub fn lock<R: Files<File = File>>(
-    alloc: Global,
-    files: &R,
-    place: &str,
-) -> Result<File, StartErr> {
-    let path = with_ending(alloc, place, ".lock")?;
-    let file = open_lock(files, path.as_str())?;
-    match file.try_lock() {
-        Ok(()) => Ok(file),
-        Err(TryLockError::WouldBlock) => Err(StartErr::AtWork),
-        Err(TryLockError::Error(_)) => Err(StartErr::Failed),
+/// What has the name of a store.
+#[derive(Clone, Copy, Debug, PartialEq, Eq)]
+pub enum FoundStore {
+    /// Nothing has it.
+    Nothing,
+    /// What has it is no folder.
+    NoFolder,
+    /// A folder that has no identity, and nothing but what a first run makes before it.
+    Bare,
+    /// A folder that has none, and something else.
+    Foreign,
+    /// A folder whose files have another form.
+    OtherVersion,
+    /// A store with this identity, which has a region, or hasn't.
+    Store { id: [u8; 16], regions: bool },
+}
+
+/// What lies where the mark of a store is to lie.
+#[derive(Clone, Copy, Debug, PartialEq, Eq)]
+pub enum FoundMark {
+    Nothing,
+    /// What lies there is no mark that goes with one store.
+    Other,
+    /// The mark of the store with this identity.
+    Of([u8; 16]),
+}
+
+/// What has the name of the file that runs hold whose tables are neither kept nor saved.
+#[derive(Clone, Copy, Debug, PartialEq, Eq)]
+pub enum FoundScratch {
+    Nothing,
+    /// What isn't an empty file.
+    Other,
+    /// A file as such a run makes it.
+    Left,
+}
+
+// Why a run may not save its tables in a store without a mark.
+fn unmarked_refusal(store: FoundStore) -> Option<StartErr>
+    ensures { result ≡ unmarked_refusal store }
+{
+    match store {
+        FoundStore::Nothing | FoundStore::Bare => None,
+        FoundStore::NoFolder | FoundStore::Foreign => Some(StartErr::NoStore),
+        FoundStore::OtherVersion => Some(StartErr::Version),
+        FoundStore::Store { regions, .. } => {
+            if regions {
+                Some(StartErr::NoMark)
+            } else {
+                None
+            }
+        }
     }
 }
 
-/// Looks whether the tables of the store with this name may be kept by the mark at a place: `NoMark` where it isn't
-/// there, but a file of the store's has the name of a region.
-pub fn may_keep<R: Files>(
-    alloc: Global,
-    files: &R,
-    name: String,
-    place: &str,
-) -> Result<(), StartErr> {
-    match symlink_metadata(files, place) {
-        Ok(_) => return Ok(()),
-        Err(error) if error.kind() == ErrorKind::NotFound => {}
-        Err(_) => return Err(StartErr::Failed),
-    }
-    let regions = RegionFiles::new(alloc, files, name)?;
-    match regions.are_there() {
-        Ok(false) => Ok(()),
-        Ok(true) => Err(StartErr::NoMark),
-        Err(_) => Err(StartErr::Failed),
+// Why it may not go on from the mark of the store with this identity.
+fn marked_refusal(store: FoundStore, of: [u8; 16]) -> Option<StartErr>
+    ensures { result ≡ marked_refusal store of }
+{
+    match store {
+        FoundStore::Nothing | FoundStore::Bare | FoundStore::NoFolder | FoundStore::Foreign => Some(
+            StartErr::NoStore,
+        ),
+        FoundStore::OtherVersion => Some(StartErr::Version),
+        FoundStore::Store { id, .. } => {
+            if id == of {
+                None
+            } else {
+                Some(StartErr::OtherStore)
+            }
+        }
     }
 }
 
-/// Looks whether a run may begin that keeps no tables: `Kept` where anything has the name of the store's mark.
-pub fn may_begin_anew<R: Files>(files: &R, place: &str) -> Result<(), StartErr> {
-    match symlink_metadata(files, place) {
-        Ok(_) => Err(StartErr::Kept),
-        Err(error) => match error.kind() {
-            ErrorKind::NotFound | ErrorKind::NotADirectory => Ok(()),
-            _ => Err(StartErr::Failed),
+/// Why a run may not save its tables in this store by this mark, if it may not.
+pub fn save_refusal(store: FoundStore, mark: FoundMark) -> Option<StartErr>
+    ensures { result ≡ save_refusal store mark }
+{
+    match mark {
+        FoundMark::Nothing => unmarked_refusal(store),
+        FoundMark::Of(of) => marked_refusal(store, of),
+        FoundMark::Other => match store {
+            FoundStore::OtherVersion => Some(StartErr::Version),
+            _ => Some(StartErr::Failed),
         },
+    }
+}
+
+/// Why a run may not keep its tables, if it may not: where there are regions, there has to be a mark.
+pub fn keep_refusal(has_mark: bool, has_regions: bool) -> Option<StartErr>
+    ensures { result ≡ keep_refusal has_mark has_regions }
+{
+    if has_regions && !has_mark {
+        Some(StartErr::NoMark)
+    } else {
+        None
+    }
+}
+
+/// Why a run may not begin whose tables are neither kept nor saved, if it may not: where there is a mark or an identity,
+/// or where what has the names of its files isn't what such a run left.
+pub fn anew_refusal(is_saved: bool, scratch: FoundScratch, has_regions: bool) -> Option<StartErr>
+    ensures { result ≡ anew_refusal is_saved scratch has_regions }
+{
+    let is_left = match scratch {
+        FoundScratch::Nothing => !has_regions,
+        FoundScratch::Other => false,
+        FoundScratch::Left => true,
+    };
+    if is_left && !is_saved {
+        None
+    } else {
+        Some(StartErr::Kept)
     }
 }

@@ -6,17 +6,19 @@ ghost use Rattle.ob_store.specs.Fresh.{past_within};
 ghost use Rattle.ob_store.specs.Logs.{asked_of};
 ghost use Rattle.ob_file.specs.Regions.{IsFresh, fresh_live, shape_of};
 
-use crate::folder::{NAMES, RegionFiles, region_in, settle, split_path};
-use crate::region::{Opened, Size, create, read, remove, reopen, write};
+use crate::complaint::Complaint;
+use crate::folder::{NAMES, names_in, region_in, settle, split_path};
+use crate::region::{Opened, Size, make_new, read, remove, reopen, settle_region, write};
+use itoa::Buffer;
 use ob_base::{Access, Failed, NoMemory, StoreErr};
-use ob_store::{BlockStore, Lasting, Log, Saving};
+use ob_store::{BlockStore, GivenUp, Lasting, Log, Saving};
 use std::alloc::Global;
 use std::collections::BTreeMap;
-use std::fs;
 use std::fs::OpenFile;
-use std::io::Read;
+use std::io::{Error, ErrorKind, Read};
 use std::os::unix::fs::FileExt;
 use std::rt::Files;
+use std::{fs, io};
 
 /// The most bytes that a block has.
 const LONGEST: usize = 16416;
@@ -40,6 +42,9 @@ pub struct FileStore<'a, R: Files> {
     slips: u64,
     given: [u8; 16416],
     given_len: usize,
+    given_up: Option<GivenUp>,
+    // the region of which a call failed last, if it is that of one, and why
+    trouble: Option<(Option<u64>, Error)>,
     ghost fresh: { IsFresh (asked_of log) regions },
     ghost short: { given_len ≤ 16416 },
 }
@@ -61,16 +66,24 @@ fn settle_written<R: Files>(
     files: &R,
     opened: &mut BTreeMap<u64, Opened<R::File>>,
     name: &str,
-) -> Result<(), Failed> {
-    for file in opened.values_mut() {
+) -> Result<(), (Option<u64>, Error)> {
+    for (region, file) in opened.iter_mut() {
         if !file.is_synced {
-            if file.file.sync_all().is_err() {
-                return Err(Failed);
+            match settle_region(files, file) {
+                Ok(()) => file.is_synced = true,
+                Err(error) => return Err((Some(*region), error)),
             }
-            file.is_synced = true;
         }
     }
-    settle(files, split_path(name).0)
+    match settle(files, split_path(name).0) {
+        Ok(()) => Ok(()),
+        Err(error) => Err((None, error)),
+    }
+}
+
+// Why a call at a region fails that was given up.
+fn given_up() -> Error {
+    Error::other("it was given up")
 }
 
 // Copies a block to the beginning of a buffer.
@@ -101,6 +114,8 @@ impl<'a, R: Files> FileStore<'a, R> {
             slips: 0,
             given: [0; 16416],
             given_len: 0,
+            given_up: None,
+            trouble: None,
         }
     }
 
@@ -115,8 +130,7 @@ impl<'a, R: Files> FileStore<'a, R> {
     // Removes the files of those regions among these names, each with a zero byte behind it, that aren't live.
     fn sweep_named(&self, names: &[u8]) {
         for name in names.split(|byte| *byte == 0) {
-            let digits = region_in(name, split_path(self.name.as_str()).1).unwrap_or("");
-            if let Ok(region) = digits.parse::<u64>() {
+            if let Some(region) = region_in(name, split_path(self.name.as_str()).1) {
                 if !self.regions.contains_key(&region) {
                     if let Ok(path) = self.path_of(region) {
                         let _ = fs::remove_file(self.files, path.as_str());
@@ -126,15 +140,33 @@ impl<'a, R: Files> FileStore<'a, R> {
         }
     }
 
-    // Whether the folder has a file of a region.
-    fn is_empty(&self) -> Result<bool, Failed> {
-        let Ok(name) = String::from_str(self.alloc, self.name.as_str()) else {
-            return Err(Failed);
-        };
-        match RegionFiles::new(self.alloc, self.files, name) {
-            Ok(found) => Ok(!found.are_there()?),
-            Err(_) => Err(Failed),
+    // Whether the folder has no file of a region.
+    fn is_empty(&self) -> io::Result<bool> {
+        let (folder, first) = split_path(self.name.as_str());
+        match names_in(self.files, folder, first) {
+            Ok(found) => Ok(!found.regions),
+            Err(error) if error.kind() == ErrorKind::NotFound => Ok(true),
+            Err(error) => Err(error),
         }
+    }
+
+    /// Says what the last call failed at that did.
+    pub fn complain(&self, complaint: &mut Complaint) {
+        match self.trouble {
+            None => {}
+            Some((None, error)) => complaint.say(&[split_path(self.name.as_str()).0], error),
+            Some((Some(region), error)) => {
+                let mut buffer = Buffer::new();
+                let number = buffer.format(region);
+                complaint.say(&[self.name.as_str(), ".", number], error);
+            }
+        }
+    }
+
+    /// Removes the files of all regions that live, as far as the file system lets them.
+    pub fn remove_all(self) {
+        let mut opened = self.opened;
+        remove_from(self.files, &mut opened, 0);
     }
 }
 
@@ -156,6 +188,8 @@ where
       gave = take m.given_len m.given;
       disturbed = None;
     } };
+
+    ghost given_up = { λ m. m.given_up };
 
     ghost keeps_live = { λ m r shape told is. absurd (cc told) };
 
@@ -185,9 +219,13 @@ where
         let Ok(path) = self.path_of(region) else {
             return Err(StoreErr::NoMemory);
         };
-        let Ok(file) = create(self.files, path.as_str()) else {
-            self.faults = self.faults.saturating_add(1);
-            return Err(StoreErr::Failed);
+        let file = match make_new(self.files, path.as_str()) {
+            Ok(file) => file,
+            Err(error) => {
+                self.faults = self.faults.saturating_add(1);
+                self.trouble = Some((Some(region), error));
+                return Err(StoreErr::Failed);
+            }
         };
         let opened = Opened {
             path,
@@ -214,7 +252,7 @@ where
         self.log.push(Access::Read { region, place });
         let done = match self.opened.get(&region) {
             Some(found) => read(&found.file, place, buf),
-            None => Err(Failed),
+            None => Err(given_up()),
         };
         match done {
             Ok(()) => {
@@ -222,8 +260,9 @@ where
                 self.given_len = buf.len();
                 Ok(())
             }
-            Err(Failed) => {
+            Err(error) => {
                 self.faults = self.faults.saturating_add(1);
+                self.trouble = Some((Some(region), error));
                 Err(Failed)
             }
         }
@@ -236,12 +275,16 @@ where
                 found.is_synced = false;
                 write(&found.file, place, block)
             }
-            None => Err(Failed),
+            None => Err(given_up()),
         };
-        if done.is_err() {
-            self.faults = self.faults.saturating_add(1);
+        match done {
+            Ok(()) => Ok(()),
+            Err(unwritten) => {
+                self.faults = self.faults.saturating_add(1);
+                self.trouble = Some((Some(region), unwritten));
+                Err(Failed)
+            }
         }
-        done
     }
 
     fn discard(&mut self, region: u64) -> Result<(), Failed> {
@@ -261,6 +304,10 @@ where
 
     fn give_up(&mut self, from: u64) {
         remove_from(self.files, &mut self.opened, from);
+        self.given_up = Some(GivenUp {
+            from,
+            asked: self.log.count(),
+        });
     }
 
     fn let_go(&mut self) {
@@ -294,9 +341,13 @@ where
             return Err(StoreErr::NoMemory);
         };
         let size = u64::from(blocks) * u64::from(len);
-        let Ok(file) = reopen(self.files, path.as_str(), size) else {
-            self.faults = self.faults.saturating_add(1);
-            return Err(StoreErr::Failed);
+        let file = match reopen(self.files, path.as_str(), size) {
+            Ok(file) => file,
+            Err(error) => {
+                self.faults = self.faults.saturating_add(1);
+                self.trouble = Some((Some(region), error));
+                return Err(StoreErr::Failed);
+            }
         };
         let opened = Opened {
             path,
@@ -322,19 +373,25 @@ where
     R::File: FileExt,
 {
     fn sync(&mut self) -> Result<(), Failed> {
-        let settled = settle_written(self.files, &mut self.opened, self.name.as_str());
-        if settled.is_err() {
-            self.faults = self.faults.saturating_add(1);
+        match settle_written(self.files, &mut self.opened, self.name.as_str()) {
+            Ok(()) => Ok(()),
+            Err(trouble) => {
+                self.faults = self.faults.saturating_add(1);
+                self.trouble = Some(trouble);
+                Err(Failed)
+            }
         }
-        settled
     }
 
     fn is_bare(&mut self) -> Result<bool, Failed> {
-        let found = self.is_empty();
-        if found.is_err() {
-            self.faults = self.faults.saturating_add(1);
+        match self.is_empty() {
+            Ok(found) => Ok(found),
+            Err(error) => {
+                self.faults = self.faults.saturating_add(1);
+                self.trouble = Some((None, error));
+                Err(Failed)
+            }
         }
-        found
     }
 
     fn sweep(&mut self) {

@@ -17,9 +17,7 @@ up_to_more m n (total ∷ totals) more fits = (one_more m n total more fits.0, u
 pub start_up_to : (agg : Agg) → IfSome (start agg) (λ x. nat_abs x ≤ 0 * 2 ^ 63)
 start_up_to CountAll = omega arith
 start_up_to (Count i) = omega arith
-start_up_to (Sum i) = tt
-start_up_to (Min i) = tt
-start_up_to (Max i) = tt
+start_up_to other = tt
 
 -- those of no rows
 pub starts_up_to : (aggs : List Agg) → AreUpTo 0 (starts aggs)

@@ -95,24 +95,15 @@ module _ (d e : Draws) (p : Public) (m : ℕ) (ts : Tables) (flat : AreFlat (hea
 
 -- ---- labels
 labels_same : (hs gs : List Heading) → SameHeadings hs gs → (stmt : Stmt) → labels_of stmt hs ≡ labels_of stmt gs
-labels_same hs gs same (Create table columns capacity shape) = refl
-labels_same hs gs same (Insert table columns values) = refl
-labels_same hs gs same (Update table sets cond) = refl
-labels_same hs gs same (Delete table cond) = refl
-labels_same hs gs same (DropTable table) = refl
 labels_same hs gs same (RowsStmt q) =
     ap (λ (cs : Columns). option_map_or (map (label_at (is_join q.source) cs)) q.list (map (column_label (is_join q.source)) cs)) (source_same hs gs same q.source)
 labels_same hs gs same (TotalsStmt q) = ap (λ (cs : Columns). map (item_label cs) q.items) (columns_same hs gs same q.table)
+labels_same hs gs same other = refl
 
 -- ---- one statement
 insert_starts : (p : Public) (ts : Tables) (stmt : Stmt) → IsSome (inserts_into (skeleton stmt)) → (seen_started p ts stmt).end ≡ Whole
 insert_starts p ts (Insert table columns values) inserts = refl
-insert_starts p ts (Create table columns capacity shape) inserts = absurd (cc inserts)
-insert_starts p ts (Update table sets cond) inserts = absurd (cc inserts)
-insert_starts p ts (Delete table cond) inserts = absurd (cc inserts)
-insert_starts p ts (DropTable table) inserts = absurd (cc inserts)
-insert_starts p ts (RowsStmt q) inserts = absurd (cc inserts)
-insert_starts p ts (TotalsStmt q) inserts = absurd (cc inserts)
+insert_starts p ts other inserts = absurd (cc inserts)
 
 early : (m : ℕ) → m < 2 ^ 63 → is_late m ≡ false
 early m few = grind (arith, nat_tests)

@@ -7,8 +7,8 @@ use Rattle.clap.specs.Words.{Text}
 use Rattle.ob_base.specs.Stored.{headings}
 use Rattle.ob_base.specs.declared.config.Config.{Config}
 use Rattle.ob_base.specs.declared.config.Public.{Public}
-use Rattle.ob_base.specs.declared.mark.Mark.{Mark}
-use Rattle.ob_base.specs.declared.mark.Mark.TheVariants.{Fresh, InUse, Closed, Begun, Saved}
+use Rattle.ob_reopen.specs.declared.mark.Mark.{Mark}
+use Rattle.ob_reopen.specs.declared.mark.Mark.TheVariants.{Fresh, InUse, Closed, Begun, Saved}
 use Rattle.ob_base.specs.declared.refusal.Stop.TheVariants as Stops
 use Rattle.ob_reopen.proofs.ByNameAlike.{named_alike}
 use Rattle.ob_reopen.specs.Closed.{is_used_up}
@@ -40,7 +40,7 @@ use Rattle.ob_base.specs.declared.access.Access.{Access}
 use Rattle.ob_headline.specs.declared.ending.Ending.{Ending}
 use Rattle.ob_headline.specs.declared.ending.Ending.TheVariants.{Usage, BadKey, Ran}
 use Rattle.ob_headline.specs.declared.ending.KeptEnding.{KeptEnding}
-use Rattle.ob_headline.specs.declared.ending.KeptEnding.TheVariants.{Plain, OtherPack, Saved as SavedBefore, NoMark, NotClosed as LeftOpen, KeeperFault, StoreFault}
+use Rattle.ob_headline.specs.declared.ending.KeptEnding.TheVariants.{Plain, OtherPack, OtherKey, Saved as SavedBefore, NoMark, NotClosed as LeftOpen, KeeperFault, StoreFault}
 use Rattle.ob_headline.specs.declared.ending.Report.{Report}
 use Rattle.ob_mean.specs.Flats.{AreFlat}
 use Rattle.ob_mean.specs.Replay.{Broken, Session, Spelt, after_all}
@@ -74,6 +74,7 @@ well_ended (Plain (Ran (Err Stops.StoreFault))) few = absurd (omega (arith, few)
 well_ended (Plain (Ran (Err Stops.StashFull))) few = absurd (omega (arith, few))
 well_ended (Plain (Ran (Err Stops.KeeperFault))) few = absurd (omega (arith, few))
 well_ended OtherPack few = absurd (omega (arith, few))
+well_ended OtherKey few = absurd (omega (arith, few))
 well_ended SavedBefore few = absurd (omega (arith, few))
 well_ended NoMark few = absurd (omega (arith, few))
 well_ended StoreFault few = absurd (omega (arith, few))
@@ -136,7 +137,7 @@ abbrev WaitsAt : (secret : List ℕ) → Mark → (kept : ℕ → Option KeptReg
 WaitsAt secret Fresh kept ts = AreAlike [] ts
 WaitsAt secret InUse kept ts = ⊤
 WaitsAt secret Begun kept ts = ⊤
-WaitsAt secret (Saved region blocks number pack salt) kept ts = ⊤
+WaitsAt secret (Saved region blocks number pack salt check) kept ts = ⊤
 WaitsAt secret (Closed region blocks number pack) kept ts =
     (tables : Tables) × Rests (keys_of secret) (closing_named region blocks number pack) kept tables × AreAlike tables ts
 
@@ -155,7 +156,7 @@ begins_at Fresh settings config secret base old new t set begins waits same kept
     begins_anew settings config set kept (keys_of secret) base t same flat step begins.0 waits
 begins_at InUse settings config secret base old new t set begins waits same kept flat step tells honest = absurd begins
 begins_at Begun settings config secret base old new t set begins waits same kept flat step tells honest = absurd begins
-begins_at (Saved region blocks number pack salt) settings config secret base old new t set begins waits same kept flat step tells honest = absurd begins
+begins_at (Saved region blocks number pack salt check) settings config secret base old new t set begins waits same kept flat step tells honest = absurd begins
 begins_at (Closed region blocks number pack) settings config secret base old new t set begins waits same kept flat step tells honest =
     let o : Opened = record { keys = keys_of secret; closing = closing_named region blocks number pack; listed = begins.1.listed; old = old; new = new } in
     begins_reopened settings config set kept (keys_of secret) base t same flat step o waits.0 begins.1.is (record { tells = tells; honest = honest; rests = waits.1 }) (begins.1.told tells honest waits.0 waits.1) waits.2
@@ -164,7 +165,7 @@ tells_on : (mark : Mark) (config : Config) (keys : KeySet) (base : Base) (old ne
 tells_on Fresh config keys base old new begins tells = subst (λ (s : StoreState). IsTrue s.tells) (sym begins.1) tells
 tells_on InUse config keys base old new begins tells = absurd begins
 tells_on Begun config keys base old new begins tells = absurd begins
-tells_on (Saved region blocks number pack salt) config keys base old new begins tells = absurd begins
+tells_on (Saved region blocks number pack salt check) config keys base old new begins tells = absurd begins
 tells_on (Closed region blocks number pack) config keys base old new begins tells = subst (λ (b : Bool). IsTrue b) (sym begins.1.tells) tells
 
 -- ---- one run, and those behind it

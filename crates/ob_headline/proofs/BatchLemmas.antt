@@ -25,12 +25,10 @@ use Rattle.ob_verdict.specs.Outcomes.{refusal_now}
 -- ---- how a statement ends by its meaning
 module _ (P : End → Type 0) (static : P Static) (whole : P Whole) (behind : P AfterCount) (p : Public) where
   with_ends : (plan : Plan) (places : List ℕ) → P (seen_with p plan places).end
-  with_ends Small places = whole
-  with_ends Large places = whole
   with_ends Continuous places =
       elim (is_consecutive places) as (λ (b : Bool). P (if b then counted (length places) (Some Continuous) None Whole else counted (length places) None None AfterCount).end)
       [ true ↦ whole | false ↦ behind ]
-  with_ends Hash places = whole
+  with_ends other places = whole
 
   rows_ends : (pad : Option ℕ) (n : ℕ) (places : List ℕ) → P (seen_by pad p n places).end
   rows_ends (Some pad) n places = whole
@@ -38,13 +36,8 @@ module _ (P : End → Type 0) (static : P Static) (whole : P Whole) (behind : P 
   rows_ends None n (i ∷ is) = with_ends (plan_for p n (i ∷ is)) (i ∷ is)
 
   started_ends : (ts : Tables) (stmt : Stmt) → P (seen_started p ts stmt).end
-  started_ends ts (Create table columns capacity shape) = whole
-  started_ends ts (Insert table columns values) = whole
-  started_ends ts (Update table sets cond) = whole
-  started_ends ts (Delete table cond) = whole
-  started_ends ts (DropTable table) = whole
   started_ends ts (RowsStmt q) = rows_ends p.pad (length (source_slots p q.source ts)) (selected_places p q ts)
-  started_ends ts (TotalsStmt q) = whole
+  started_ends ts other = whole
 
   served_ends : (d : Draws) (o : Option Accessed) (ts : Tables) (stmt : Stmt) → P (seen_served d o p ts stmt).end
   served_ends d None ts stmt = started_ends ts stmt
@@ -66,11 +59,8 @@ pub sound_now : (g : Option Gathering) (s : Session) (stmt : Stmt) → is_failed
 sound_now g s stmt = now_ends (λ (e : End). is_failed g e ≡ false) refl refl refl s stmt
 
 pub cut_fails : (g : Option Gathering) (end : End) → IsTrue (is_cut end) → IsTrue (is_failed g end)
-cut_fails g Static cut = absurd (cc cut)
-cut_fails g Whole cut = absurd (cc cut)
-cut_fails g AfterCount cut = absurd (cc cut)
-cut_fails g Joined cut = absurd (cc cut)
 cut_fails g (Cut n) cut = refl
+cut_fails g other cut = absurd (cc cut)
 
 -- ---- how it was served where the store didn't fail
 abbrev pub IsUncut : How → Type 0

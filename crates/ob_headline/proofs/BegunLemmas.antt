@@ -4,8 +4,8 @@ use Rattle.std.proofs.Common.{◌≡◌, ◌+◌, ◌<◌, ◌==◌, ◌&&◌, i
 use Rattle.std.proofs.lemmas.Bool.Decides.{nat_tests}
 use Rattle.std.specs.Option.{option_map_or}
 use Rattle.ob_base.specs.declared.config.Config.{Config}
-use Rattle.ob_base.specs.declared.mark.Mark.{Mark}
-use Rattle.ob_base.specs.declared.mark.Mark.TheVariants.{Fresh, InUse, Closed, Begun, Saved}
+use Rattle.ob_reopen.specs.declared.mark.Mark.{Mark}
+use Rattle.ob_reopen.specs.declared.mark.Mark.TheVariants.{Fresh, InUse, Closed, Begun, Saved}
 use Rattle.ob_reopen.specs.Reopened.{number_given}
 use Rattle.ob_headline.proofs.LeftLemmas.{shows_all}
 use Rattle.ob_headline.specs.Bases.{Base, flying, fresh}
@@ -49,15 +49,13 @@ none_given closing (t ∷ ts) earlier q x own =
 
 pub begun_from : (mark : Mark) (config : Config) (keys : KeySet) (base : Base) (old new : StoreState) → BeginsFrom mark config keys base old new → IsBegun base
 begun_from Fresh config keys base old new begins = subst IsBegun (sym begins.0) (begun_fresh (Some config))
-begun_from InUse config keys base old new begins = absurd begins
-begun_from Begun config keys base old new begins = absurd begins
-begun_from (Saved region blocks number pack salt) config keys base old new begins = absurd begins
 begun_from (Closed region blocks number pack) config keys base old new begins =
     let opens = begins.1 in
     subst IsBegun (sym opens.is) (record {
       next = refl;
       fresh = λ q x own. none_given (closing_named region blocks number pack) opens.listed (λ i t is. (opens.catalogue.are.each i t is).listed.region_most) q x own;
     })
+begun_from other config keys base old new begins = absurd begins
 
 -- ---- what lies in the store once it ended
 sealed_behind : (ended : Ending) (base : Base) (taken secret : List ℕ) (tracing : Bool) (story : Story) (begun served new : Outside) (run report : Report) (k0 k1 : KeeperState)

@@ -90,15 +90,11 @@ module _ (from : ℕ) where
         written (is_access p f.served.skeleton) refl (ordered_own p f.served (no_second f.served may.one_plan)) q x (is ∙ here ∙ ap Some write)
 
     region_above : (act : Option Access) → next_act s.public f ≡ act → (h : ℕ) → region_after act f.region ≡ Some h → from ≤ h
-    region_above None is h region = (above.fits i f at).above h region
     region_above (Some (Make q blocks len)) is h region =
         let own : q ≡ g = (steady_of s.public f.served may).makes_own f.asked g q blocks len is in
         let same : q ≡ h = cc region in
         omega (arith, le, own, same)
-    region_above (Some (Read q x)) is h region = (above.fits i f at).above h region
-    region_above (Some (Write q x)) is h region = (above.fits i f at).above h region
-    region_above (Some (Discard q)) is h region = (above.fits i f at).above h region
-    region_above (Some (Open q blocks len)) is h region = (above.fits i f at).above h region
+    region_above other is h region = (above.fits i f at).above h region
 
     fits_acted : (act : Option Access) → next_act s.public f ≡ act → Fits (acted act f)
     fits_acted None is = record { may = may; above = (above.fits i f at).above }

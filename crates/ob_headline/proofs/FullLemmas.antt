@@ -151,7 +151,6 @@ module _ (p : Public) (name : List ℕ) (indexed : has_index p name ≡ true) wh
 
 -- a statement accesses the index of its table
 pub on_index : (p : Public) (sk : Skeleton) → is_access p sk ≡ true → OnIndex p sk
-on_index p (CreateSkeleton table cs n shape) keyed = absurd (cc keyed)
 on_index p (InsertSkeleton table cs) keyed =
     let there = index_there p table keyed in
     record { name = table; table = there.table; found = there.found; indexed = there.shaped; height = there.height; whole = λ x. there.whole x.leaf (mutation_script p insert_part (behind_change p (InsertSkeleton table cs))) }
@@ -161,12 +160,10 @@ on_index p (UpdateSkeleton table cs) keyed =
 on_index p (DeleteSkeleton table) keyed =
     let there = index_there p table keyed in
     record { name = table; table = there.table; found = there.found; indexed = there.shaped; height = there.height; whole = λ x. there.whole x.leaf (mutation_script p rewrite_part (behind_change p (DeleteSkeleton table))) }
-on_index p (DropSkeleton table) keyed = absurd (cc keyed)
 on_index p (Rows (OneTable name) cs) keyed =
     let there = index_there p name keyed in
     record { name = name; table = there.table; found = there.found; indexed = there.shaped; height = there.height; whole = λ x. there.whole x.leaf (flat_script p x) }
-on_index p (Rows (Join a b on equals) cs) keyed = absurd (cc keyed)
-on_index p (Groups table cs key) keyed = absurd (cc keyed)
+on_index p other keyed = absurd (cc keyed)
 
 -- ---- a statement that meets a full stash
 -- what it would ask, and of that what it asks: the reads

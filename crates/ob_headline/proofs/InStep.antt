@@ -93,11 +93,8 @@ one_gone name (h ∷ hs) apart =
 module _ (d : Draws) (p : Public) (m : ℕ) (ts : Tables) (flat : AreFlat (headings ts)) (same : headings ts ≡ headings_of p.tables) where
   -- one that leaves all headings
   still : (s : Skeleton) (end : End) → headings_of (tables_after p s) ≡ headings_of p.tables → headings_of (tables_then p s end) ≡ headings_of p.tables
-  still s Static after = refl
   still s Whole after = after
-  still s AfterCount after = refl
-  still s Joined after = refl
-  still s (Cut n) after = refl
+  still s other after = refl
 
   followed_still : (o : Option Refusal) (later : Tables) → headings later ≡ headings ts → headings (followed o later ts) ≡ headings ts
   followed_still None later is = is
@@ -162,9 +159,4 @@ keeps_step s stmt flat same apart = steps s.draws s.public s.asked s.tables flat
 -- so they are behind one that is served with another
 pub joins_step : (s : Session) (stmt : Stmt) → AreFlat (headings s.tables) → InStep s → IsSome (inserts_into (skeleton stmt)) → InStep (after With s stmt)
 joins_step s (Insert table columns values) flat same inserts = stays s.draws s.public s.asked s.tables flat same table columns values
-joins_step s (Create table columns capacity shape) flat same inserts = absurd (cc inserts)
-joins_step s (Update table sets cond) flat same inserts = absurd (cc inserts)
-joins_step s (Delete table cond) flat same inserts = absurd (cc inserts)
-joins_step s (DropTable table) flat same inserts = absurd (cc inserts)
-joins_step s (RowsStmt q) flat same inserts = absurd (cc inserts)
-joins_step s (TotalsStmt q) flat same inserts = absurd (cc inserts)
+joins_step s other flat same inserts = absurd (cc inserts)

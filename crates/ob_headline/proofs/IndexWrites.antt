@@ -158,8 +158,5 @@ next_index p s seen q of = by_end seen.end of
     behind (Groups table cs key) of = inl of
 
     by_end : (end : End) → OfIndex (tables_then p s end) q → OfIndex p.tables q ⊎ (p.next_region ≤ q)
-    by_end Static of = inl of
     by_end Whole of = behind s of
-    by_end AfterCount of = inl of
-    by_end Joined of = inl of
-    by_end (Cut n) of = inl of
+    by_end other of = inl of

@@ -56,12 +56,6 @@ joined_same None p e f g left right ending = refl
 joined_same (Some pad) p e f g left right ending = refl
 
 whole_same : (p : Public) (s : Skeleton) (e f : End) → whole_script p s (ended_so e) ≡ whole_script p s (ended_so f)
-whole_same p (K.Create table cs n shape) e f = refl
-whole_same p (K.Insert table cs) e f = refl
-whole_same p (K.Update table cs) e f = refl
-whole_same p (K.Delete table) e f = refl
-whole_same p (K.Drop table) e f = refl
-whole_same p (K.Groups table cs key) e f = refl
 whole_same p (K.Rows (OneTable name) cs) e f =
     λ i. with_table name p (λ t.
     by_shape t.heading.shape (count_part (extent_of t).region (blocks_of p (extent_of t)) ++ behind_same p.pad p e f p.next_region t [] i) (index_part_of p None t))
@@ -70,6 +64,7 @@ whole_same p (K.Rows (Join a b on equals) cs) e f =
     join_part left.held right.held p.next_region (blocks_of p (extent_of left)) (blocks_of p (extent_of right)) (buffered_blocks p.pack p.buffer) (rows_width p (joined_extent p left.heading right.heading))
     ++ (count_part (joined_extent p left.heading right.heading).region (blocks_of p (joined_extent p left.heading right.heading))
     ++ joined_same p.pad p e f (p.next_region + 1) left.heading right.heading (discard_at p.next_region) i)))
+whole_same p other e f = refl
 
 -- ---- one statement asks a first part of what its early refusal says
 pub begins_all : {A : Type 0} (xs : List A) → Begins xs xs
@@ -109,11 +104,8 @@ begins_uncut p m g stmt here uncut plain lawful joins =
 
 pub begins_by : (p : Public) (m : ℕ) (g : Option Gathering) (stmt : Stmt) (here : Seen) (end : End) → here.end ≡ end → IsPlain p stmt → Lawful p m stmt here → Joins p m g stmt here
     → Begins (script p (skeleton stmt) here) (script p (skeleton stmt) (plainly p m g stmt))
-begins_by p m g stmt here Static is plain lawful joins = begins_uncut p m g stmt here (ap is_cut is) plain lawful joins
-begins_by p m g stmt here Whole is plain lawful joins = begins_uncut p m g stmt here (ap is_cut is) plain lawful joins
-begins_by p m g stmt here AfterCount is plain lawful joins = begins_uncut p m g stmt here (ap is_cut is) plain lawful joins
-begins_by p m g stmt here Joined is plain lawful joins = begins_uncut p m g stmt here (ap is_cut is) plain lawful joins
 begins_by p m g stmt here (Cut n) is plain lawful joins = begins_cut p m g stmt here n is plain lawful joins
+begins_by p m g stmt here other is plain lawful joins = begins_uncut p m g stmt here (ap is_cut is) plain lawful joins
 
 -- ---- all statements do
 -- the last one

@@ -37,7 +37,9 @@ pub mod LeftLemmas
 pub mod BegunLemmas
 pub mod StopLemmas
 pub mod SavedMarks
+pub mod SecretLemmas
 pub mod EffectLemmas
 pub mod BeginsAlike
 pub mod SavedAsOne
 pub mod SavedNumbers
+pub mod SaltedNumbers

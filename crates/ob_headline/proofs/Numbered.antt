@@ -6,8 +6,8 @@ use Rattle.ob_base.specs.Lists.{each}
 use Rattle.ob_base.specs.declared.access.Access.{Access}
 use Rattle.ob_base.specs.declared.access.Access.TheVariants as A
 use Rattle.ob_base.specs.declared.config.Config.{Config}
-use Rattle.ob_base.specs.declared.mark.Mark.{Mark}
-use Rattle.ob_base.specs.declared.mark.Mark.TheVariants.{Fresh, InUse, Closed, Begun, Saved}
+use Rattle.ob_reopen.specs.declared.mark.Mark.{Mark}
+use Rattle.ob_reopen.specs.declared.mark.Mark.TheVariants.{Fresh, InUse, Closed, Begun, Saved}
 use Rattle.ob_reopen.specs.Closed.{IsClosedAs, StaysInUse, is_used_up}
 use Rattle.ob_headline.proofs.MarkLemmas.{held_after}
 use Rattle.ob_headline.specs.Bases.{Base, flying}
@@ -89,17 +89,13 @@ most_behind (Ran (Ok refused)) base keys tracing story begun served new run repo
 -- ---- numbers that are at most those of a mark
 abbrev Reaches : Mark → ℕ → Type 0
 Reaches Fresh n = n ≡ 0
-Reaches InUse n = ⊤
-Reaches Begun n = ⊤
-Reaches (Saved region blocks number pack salt) n = ⊤
 Reaches (Closed region blocks number pack) n = n + 1 ≤ number + blocks
+Reaches other n = ⊤
 
 goes_on : (mark : Mark) (config : Config) (keys : KeySet) (base : Base) (s t : StoreState) (n : ℕ) → BeginsFrom mark config keys base s t → Reaches mark n → n ≤ base.start.writes
 goes_on Fresh config keys base s t n begins reaches = let start = ap (λ (b : Base). b.start.writes) begins.0 in omega (arith, start, reaches)
-goes_on InUse config keys base s t n begins reaches = absurd begins
-goes_on Begun config keys base s t n begins reaches = absurd begins
-goes_on (Saved region blocks number pack salt) config keys base s t n begins reaches = absurd begins
 goes_on (Closed region blocks number pack) config keys base s t n begins reaches = let start = ap (λ (b : Base). b.start.writes) begins.1.is in omega (arith, start, reaches)
+goes_on other config keys base s t n begins reaches = absurd begins
 
 reaches_made : (closing : Closing) (n : ℕ) → n + 1 ≤ closing.number + closing.blocks → Reaches (mark_made closing) n
 reaches_made closing n few =

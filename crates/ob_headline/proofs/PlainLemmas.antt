@@ -86,17 +86,13 @@ module _ (one : SomeRun) (input : List ℕ) (flies : FliesNone one.base) (free :
   Completes ending = IsCompleted (IsHonest one.old.store one.new.store) (StoreFails one.base one.old.store one.new.store) (one.base.public.save ≡ true) ending
 
   ends : (ending : Ending) → one.run.ending ≡ ending → Completes ending → Ends
-  ends Usage is done = absurd done
-  ends BadKey is done = absurd done
   ends (Ran (Ok refused)) is done = (refused, is)
   ends (Ran (Err (Tampered region place))) is done = absurd (done free.honest)
-  ends (Ran (Err SourceFault)) is done = absurd done
-  ends (Ran (Err SinkFault)) is done = absurd done
   ends (Ran (Err NoMemory)) is done = absurd (free.memory (one.run.status.status ∙ ap status_of is))
-  ends (Ran (Err InputLimit)) is done = absurd done
   ends (Ran (Err StoreFault)) is done = elim done [ inl failed ↦ absurd (free.sound failed) | inr used ↦ absurd (free.numbers used) ]
   ends (Ran (Err StashFull)) is done = absurd (free.room (one.run.status.status ∙ ap status_of is))
   ends (Ran (Err KeeperFault)) is done = absurd (free.keeper done (one.run.status.status ∙ ap status_of is))
+  ends other is done = absurd done
 
   undeceived : IsUndeceived (keys_by one) one.base.start one.old.store one.new.store
   undeceived = record { tells = free.honest.tells; unfit = λ lie told. let none = free.honest.no_lie in absurd (cc (told, none)) }

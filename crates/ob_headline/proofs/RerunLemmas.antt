@@ -135,11 +135,8 @@ shows_plainly p m g stmt here lawful joins plain uncut =
 
 -- without batches none is served with another
 unjoined : (p : Public) (stmt : Stmt) (end : End) → p.batch ≡ None → EndsUncounted p stmt end → is_joined end ≡ false
-unjoined p stmt Static none ends = refl
-unjoined p stmt Whole none ends = refl
-unjoined p stmt AfterCount none ends = refl
 unjoined p stmt Joined none ends = let batched = ends.batched in absurd (cc (ap is_some none, batched))
-unjoined p stmt (Cut n) none ends = refl
+unjoined p stmt other none ends = refl
 
 pub shows_alone : (p : Public) (m : ℕ) (stmt : Stmt) (here : Seen) → p.batch ≡ None → Lawful p m stmt here → IsPlain p stmt → is_cut here.end ≡ false → here ≡ plainly p m None stmt
 shows_alone p m stmt here none lawful plain uncut =
@@ -153,12 +150,7 @@ is_rows _ = false
 
 counted_rows : (stmt : Stmt) → selects_rows stmt ≡ is_rows (skeleton stmt)
 counted_rows (Create table columns capacity shape) = refl
-counted_rows (Insert table columns values) = refl
-counted_rows (Update table sets cond) = refl
-counted_rows (Delete table cond) = refl
-counted_rows (DropTable table) = refl
-counted_rows (SelectRows s) = refl
-counted_rows (SelectTotals s) = refl
+counted_rows other = refl
 
 same_counted : (a b : Stmt) → skeleton a ≡ skeleton b → selects_rows a ≡ selects_rows b
 same_counted a b is = counted_rows a ∙ ap is_rows is ∙ sym (counted_rows b)

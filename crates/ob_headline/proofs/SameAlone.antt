@@ -65,12 +65,7 @@ goes_none p (Some h) (K.Drop table) flies = absurd (cc flies)
 inserts_none : (p : Public) (s : Skeleton) → may_fly p s ≡ true → inserts_flat p s ≡ false
 inserts_none p (K.Rows (OneTable table) columns) flies = refl
 inserts_none p (K.Groups table columns key) flies = refl
-inserts_none p (K.Rows (Join a b on equals) columns) flies = absurd (cc flies)
-inserts_none p (K.Create table columns capacity shape) flies = absurd (cc flies)
-inserts_none p (K.Insert table columns) flies = absurd (cc flies)
-inserts_none p (K.Update table columns) flies = absurd (cc flies)
-inserts_none p (K.Delete table) flies = absurd (cc flies)
-inserts_none p (K.Drop table) flies = absurd (cc flies)
+inserts_none p other flies = absurd (cc flies)
 
 pub flier_alone : (p : Public) (m : ℕ) (g : Option Gathering) (stmt : Stmt) → may_fly p (skeleton stmt) ≡ true → GoesAlone p m g stmt
 flier_alone p m g stmt flies = record {

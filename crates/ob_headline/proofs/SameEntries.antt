@@ -105,29 +105,16 @@ gathered_at most g (w ∷ vs) (o ∷ bs) (z ∷ xs) (suc j) u v x y are a b c d 
 pub may_by : (p q : Public) (s : Skeleton) → p.tables ≡ q.tables → may_fly p s ≡ may_fly q s
 may_by p q (K.Rows (OneTable table) columns) same = ap (λ (ts : List Table). not (is_index (headings_of ts) table)) same
 may_by p q (K.Groups table columns key) same = ap (λ (ts : List Table). not (is_index (headings_of ts) table)) same
-may_by p q (K.Rows (Join a b on equals) columns) same = refl
-may_by p q (K.Create table columns capacity shape) same = refl
-may_by p q (K.Insert table columns) same = refl
-may_by p q (K.Update table columns) same = refl
-may_by p q (K.Delete table) same = refl
-may_by p q (K.Drop table) same = refl
+may_by p q other same = refl
 
 pub selects_one : (p : Public) (s : Skeleton) → may_fly p s ≡ true → SelectsFromOne s
 selects_one p (K.Rows (OneTable table) columns) may = tt
 selects_one p (K.Groups table columns key) may = tt
-selects_one p (K.Rows (Join a b on equals) columns) may = absurd (cc may)
-selects_one p (K.Create table columns capacity shape) may = absurd (cc may)
-selects_one p (K.Insert table columns) may = absurd (cc may)
-selects_one p (K.Update table columns) may = absurd (cc may)
-selects_one p (K.Delete table) may = absurd (cc may)
-selects_one p (K.Drop table) may = absurd (cc may)
+selects_one p other may = absurd (cc may)
 
 tables_stay : (p : Public) (s : Skeleton) (end : End) → tables_after p s ≡ p.tables → tables_then p s end ≡ p.tables
-tables_stay p s Static same = refl
 tables_stay p s Whole same = same
-tables_stay p s AfterCount same = refl
-tables_stay p s Joined same = refl
-tables_stay p s (Cut n) same = refl
+tables_stay p s other same = refl
 
 -- a SELECT leaves them
 pub selects_stay : (p : Public) (x : Served) → SelectsFromOne x.skeleton → (next p x.skeleton x.seen).tables ≡ p.tables

@@ -5,8 +5,8 @@ use Rattle.std.proofs.lemmas.Bool.Decides.{nat_tests}
 use Rattle.clap.specs.Words.{Text}
 use Rattle.ob_base.specs.Stored.{headings}
 use Rattle.ob_base.specs.declared.config.Config.{Config}
-use Rattle.ob_base.specs.declared.mark.Mark.{Mark}
-use Rattle.ob_base.specs.declared.mark.Mark.TheVariants.{Fresh, InUse, Closed, Begun, Saved}
+use Rattle.ob_reopen.specs.declared.mark.Mark.{Mark}
+use Rattle.ob_reopen.specs.declared.mark.Mark.TheVariants.{Fresh, InUse, Closed, Begun, Saved}
 use Rattle.ob_headline.proofs.AlikeSessions.{grows, keeps_plain}
 use Rattle.ob_headline.proofs.AsOne.{none_there, unlied}
 use Rattle.ob_headline.proofs.BeginsAlike.{Begins, begins_anew, begins_reopened}
@@ -104,14 +104,13 @@ module _ (settings : Option Config) (config : Config) (set : settings ≡ Some c
   begins_saved InUse begins waits = absurd begins
   begins_saved (Closed region blocks number pack) begins waits = begins_on None (closing_named region blocks number pack) begins.1 waits.resting waits.rests waits.alike
   begins_saved Begun begins waits = begins_bare waits begins.0.is
-  begins_saved (Saved region blocks number pack closed) begins waits = begins_on (Some closed) (closing_named region blocks number pack) begins.1 waits.resting waits.rests waits.alike
+  begins_saved (Saved region blocks number pack closed check) begins waits = begins_on (Some closed) (closing_named region blocks number pack) begins.2 waits.resting waits.rests.1 waits.alike
 
 tells_on : (mark : Mark) (config : Config) (secret salt : List ℕ) (keys : KeySet) (base : Base) (old new : StoreState) → BeginsSaved mark config secret salt keys base old new → IsTrue old.tells → IsTrue new.tells
 tells_on Fresh config secret salt keys base old new begins tells = subst (λ (b : Bool). IsTrue b) (sym (begins.1.sweeps.tells ∙ begins.1.finds.syncs.tells)) tells
 tells_on InUse config secret salt keys base old new begins tells = absurd begins
-tells_on (Closed region blocks number pack) config secret salt keys base old new begins tells = subst (λ (b : Bool). IsTrue b) (sym begins.1.tells) tells
-tells_on Begun config secret salt keys base old new begins tells = subst (λ (b : Bool). IsTrue b) (sym begins.1.tells) tells
-tells_on (Saved region blocks number pack closed) config secret salt keys base old new begins tells = subst (λ (b : Bool). IsTrue b) (sym begins.1.tells) tells
+tells_on (Saved region blocks number pack closed check) config secret salt keys base old new begins tells = subst (λ (b : Bool). IsTrue b) (sym begins.2.tells) tells
+tells_on other config secret salt keys base old new begins tells = subst (λ (b : Bool). IsTrue b) (sym begins.1.tells) tells
 
 -- ---- one run
 -- what it leaves, unless a text comes too late in the one run: of its texts these took effect

@@ -4,13 +4,13 @@ use Rattle.std.proofs.Common.{◌≡◌, ℕ, Bool, true, false, IsTrue, List, O
 use Rattle.clap.specs.Words.{Text}
 use Rattle.ob_base.specs.declared.config.Config.{Config}
 use Rattle.ob_base.specs.declared.fault.Failed.{Failed}
-use Rattle.ob_base.specs.declared.mark.Mark.{Mark}
-use Rattle.ob_base.specs.declared.mark.Mark.TheVariants.{Fresh, InUse, Closed, Begun, Saved}
+use Rattle.ob_reopen.specs.declared.mark.Mark.{Mark}
+use Rattle.ob_reopen.specs.declared.mark.Mark.TheVariants.{Fresh, InUse, Closed, Begun, Saved}
 use Rattle.ob_headline.specs.Bases.{Base}
 use Rattle.ob_headline.specs.Keeping.{closing_named}
 use Rattle.ob_headline.specs.SavedHeadline.{RunSaved}
 use Rattle.ob_headline.specs.SavedRuns.{LeavesHeld, Outlasts, SavedRun}
-use Rattle.ob_headline.specs.Saving.{BeganSaved, BeginsSaved, EndsMarked, EndsSalted, EndsShut, HandsBegun, LooksBare, RefusesMark, RestsAt, StaysShut, begun_mark}
+use Rattle.ob_headline.specs.Saving.{BeganSaved, BeginsSaved, EndsMarked, EndsSalted, EndsShut, HandsBegun, LooksBare, RefusesMark, RestsAt, StaysLocked, StaysShut, begun_mark}
 use Rattle.ob_headline.specs.Words.{Answer, Outside}
 use Rattle.ob_headline.specs.declared.ending.KeptEnding.{KeptEnding}
 use Rattle.ob_headline.specs.declared.ending.KeptEnding.TheVariants.{OtherPack}
@@ -31,16 +31,12 @@ same_stays old new same q = ap (λ (s : StoreState). s.kept q) same
 looks_stays : (mark : Mark) (old new : StoreState) → LooksBare mark old new → Stays old new
 looks_stays Fresh old new looks = looks.syncs.keeps.kept
 looks_stays InUse old new looks = absurd looks
-looks_stays (Closed region blocks number pack) old new looks = same_stays old new looks
-looks_stays Begun old new looks = same_stays old new looks
-looks_stays (Saved region blocks number pack salt) old new looks = same_stays old new looks
+looks_stays other old new looks = same_stays old new looks
 
 refused_stays : (mark : Mark) (ending : KeptEnding) (old new : StoreState) → RefusesMark mark ending old new → Stays old new
 refused_stays Fresh ending old new refused = refused.syncs.keeps.kept
 refused_stays InUse ending old new refused = same_stays old new refused.1
-refused_stays (Closed region blocks number pack) ending old new refused = absurd refused
-refused_stays Begun ending old new refused = absurd refused
-refused_stays (Saved region blocks number pack salt) ending old new refused = absurd refused
+refused_stays other ending old new refused = absurd refused
 
 shut_stays : (mark : Mark) (config : Config) (secret salt : List ℕ) (ending : KeptEnding) (old new : StoreState) → EndsShut mark config secret salt ending old new → Stays old new
 shut_stays Fresh config secret salt ending old new shut = shut.1.syncs.keeps.kept
@@ -51,10 +47,11 @@ shut_stays (Closed region blocks number pack) config secret salt ending old new 
     go true stays = stays.kept
     go false other = same_stays old new other.1
 shut_stays Begun config secret salt ending old new shut = same_stays old new shut.1
-shut_stays (Saved region blocks number pack closed) config secret salt ending old new shut = go (pack == config.pack) shut
+shut_stays (Saved region blocks number pack closed check) config secret salt ending old new shut = go (pack == config.pack) shut
   where
-    go : (b : Bool) → MatchBool b (StaysShut (Some closed) (closing_named region blocks number pack) secret salt ending old new) ((ending ≡ OtherPack) × (new ≡ old)) → Stays old new
-    go true stays = stays.kept
+    go : (b : Bool) → MatchBool b (StaysLocked closed check (closing_named region blocks number pack) secret salt ending old new) ((ending ≡ OtherPack) × (new ≡ old)) → Stays old new
+    go true (inl fits) = fits.1.kept
+    go true (inr key) = same_stays old new key.2
     go false other = same_stays old new other.1
 
 -- ---- so what rests for a mark does
@@ -64,10 +61,7 @@ rests_on secret mark old new tables stays rests = subst (λ (kept : ℕ → Opti
 -- none rest for `Begun` as for a fresh mark
 rests_begun : (secret : List ℕ) (mark : Mark) (kept : ℕ → Option KeptRegion) (tables : Tables) → RestsAt secret mark kept tables → RestsAt secret (begun_mark mark) kept tables
 rests_begun secret Fresh kept tables rests = rests
-rests_begun secret InUse kept tables rests = rests
-rests_begun secret (Closed region blocks number pack) kept tables rests = rests
-rests_begun secret Begun kept tables rests = rests
-rests_begun secret (Saved region blocks number pack salt) kept tables rests = rests
+rests_begun secret other kept tables rests = rests
 
 -- nor is anything given up that rests for the mark that was begun from
 rests_behind : (mark : Mark) (config : Config) (secret salt : List ℕ) (keys : KeySet) (base : Base) (old new : StoreState) → BeginsSaved mark config secret salt keys base old new → IsTrue old.tells → new.lie ≡ None
@@ -76,7 +70,7 @@ rests_behind Fresh config secret salt keys base old new begins tells honest tabl
 rests_behind InUse config secret salt keys base old new begins tells honest tables rests = absurd begins
 rests_behind (Closed region blocks number pack) config secret salt keys base old new begins tells honest tables rests = (begins.1.told tells honest tables rests).rests
 rests_behind Begun config secret salt keys base old new begins tells honest tables rests = rests
-rests_behind (Saved region blocks number pack closed) config secret salt keys base old new begins tells honest tables rests = (begins.1.told tells honest tables rests).rests
+rests_behind (Saved region blocks number pack closed check) config secret salt keys base old new begins tells honest tables rests = (begins.1, (begins.2.told tells honest tables rests.1).rests)
 
 -- ---- what the keeper holds
 stays_as : (mark : Mark) (k0 k1 : KeeperState) (held : Mark) → k1 ≡ k0 → k0.held ≡ Some held → mark ≡ held → k1.held ≡ Some mark
@@ -87,15 +81,12 @@ handed Fresh k0 k1 held hands is read = hands.told held is
 handed InUse k0 k1 held hands is read = absurd hands
 handed (Closed region blocks number pack) k0 k1 held hands is read = stays_as (Closed region blocks number pack) k0 k1 held hands is read
 handed Begun k0 k1 held hands is read = stays_as Begun k0 k1 held hands is read
-handed (Saved region blocks number pack salt) k0 k1 held hands is read = stays_as (Saved region blocks number pack salt) k0 k1 held hands is read
+handed (Saved region blocks number pack salt check) k0 k1 held hands is read = stays_as (Saved region blocks number pack salt check) k0 k1 held hands is read
 
 unhanded : (mark : Mark) (failed : Failed) (k0 k1 : KeeperState) (held : Mark) → HandsBegun mark (Err failed) k0 k1 → k0.held ≡ Some held → mark ≡ held → (k1.held ≡ Some held) ⊎ (k1.held ≡ Some (begun_mark held))
 unhanded Fresh failed k0 k1 held hands is read =
     elim (hands.failed held is) [ inl same ↦ inl same | inr set ↦ inr (set ∙ ap (λ (m : Mark). Some (begun_mark m)) read) ]
-unhanded InUse failed k0 k1 held hands is read = absurd hands
-unhanded (Closed region blocks number pack) failed k0 k1 held hands is read = absurd hands
-unhanded Begun failed k0 k1 held hands is read = absurd hands
-unhanded (Saved region blocks number pack salt) failed k0 k1 held hands is read = absurd hands
+unhanded other failed k0 k1 held hands is read = absurd hands
 
 -- ---- no statement was served
 record Left (secret : List ℕ) (old new : StoreState) (k1 : KeeperState) (held : Mark) : Type 0 where

@@ -9,8 +9,8 @@ use Rattle.ob_base.specs.Stored.{headings_of}
 use Rattle.ob_base.specs.declared.access.Access.{Access}
 use Rattle.ob_base.specs.declared.access.Access.TheVariants.{Write}
 use Rattle.ob_base.specs.declared.config.Config.{Config}
-use Rattle.ob_base.specs.declared.mark.Mark.{Mark}
-use Rattle.ob_base.specs.declared.mark.Mark.TheVariants.{Fresh, InUse, Closed, Begun, Saved}
+use Rattle.ob_reopen.specs.declared.mark.Mark.{Mark}
+use Rattle.ob_reopen.specs.declared.mark.Mark.TheVariants.{Fresh, InUse, Closed, Begun, Saved}
 use Rattle.ob_base.specs.declared.schema.Table.{Table}
 use Rattle.ob_headline.proofs.AloneLemmas.{alone}
 use Rattle.ob_headline.proofs.BegunLemmas.{begun_flying, begun_fresh, none_given}
@@ -41,12 +41,15 @@ use Rattle.ob_reopen.specs.declared.closing.Closing.{Closing}
 use Rattle.ob_reopen.specs.declared.listed.Listed.{Listed}
 use Rattle.ob_script.proofs.Eaches.{get_back, get_front}
 use Rattle.ob_seal.proofs.Salts.{own_pair}
-use Rattle.ob_seal.specs.KeySet.{KeySet, pair_of}
+use Rattle.ob_seal.proofs.Spans.{of_one}
+use Rattle.ob_seal.specs.KeySet.{KeySet, pair_at}
 use Rattle.ob_seal.specs.Sealed.{AreBefore, keys_salted}
+use Rattle.ob_seal.specs.declared.At.{At}
 use Rattle.ob_seal.specs.declared.Salted.{Salted}
 use Rattle.ob_seal.specs.declared.pairs.Pair.{Pair}
 use Rattle.ob_store.specs.State.{StoreState}
 use Rattle.ob_vault.specs.State.{Start}
+use Rattle.ob_vault.specs.Tied.{at_of}
 use Rattle.ob_headline.specs.declared.flight.FlightSettings.{FlightSettings}
 
 -- ---- what a run begins with
@@ -59,31 +62,31 @@ begun_saved Fresh config secret salt keys base old new begins = subst IsBegun (s
 begun_saved InUse config secret salt keys base old new begins = absurd begins
 begun_saved (Closed region blocks number pack) config secret salt keys base old new begins = reopened_begun None (closing_named region blocks number pack) config secret salt keys base old new begins.1
 begun_saved Begun config secret salt keys base old new begins = subst IsBegun (sym begins.0.is) (begun_fresh (Some config))
-begun_saved (Saved region blocks number pack closed) config secret salt keys base old new begins = reopened_begun (Some closed) (closing_named region blocks number pack) config secret salt keys base old new begins.1
+begun_saved (Saved region blocks number pack closed check) config secret salt keys base old new begins = reopened_begun (Some closed) (closing_named region blocks number pack) config secret salt keys base old new begins.2
 
 -- ---- the keys of the regions that it makes are those of its salt
-salted_own : (secret salt : List ℕ) (earlier : List Salted) (keys : KeySet) (q : ℕ) → keys ≡ keys_salted secret salt earlier → AreBefore q earlier → (pair_of keys q).salt ≡ Some salt
-salted_own secret salt earlier keys q is before =
-    ap (λ (k : KeySet). (pair_of k q).salt) is ∙ ap (λ (p : Pair). p.salt) (own_pair secret salt earlier q before)
+pub salted_own : (secret salt : List ℕ) (earlier : List Salted) (keys : KeySet) (at : At) → keys ≡ keys_salted secret salt earlier → AreBefore at.region earlier → (pair_at keys at).salt ≡ Some salt
+salted_own secret salt earlier keys at is before =
+    ap (λ (k : KeySet). (pair_at k at).salt) is ∙ ap (λ (p : Pair). p.salt) (of_one (keys_salted secret salt earlier) at tt ∙ own_pair secret salt earlier at.region before)
 
 all_before : (listed : List Listed) (q : ℕ) → ((i : ℕ) (t : Listed) → slice_get listed i ≡ Some t → t.table.region < q) → AreBefore q (map salted_of listed)
 all_before [] q each = tt
 all_before (t ∷ ts) q each = (each zero t refl, all_before ts q (λ i u is. each (suc i) u is))
 
 reopened_own : (closed : Option (List ℕ)) (closing : Closing) (config : Config) (secret salt : List ℕ) (keys : KeySet) (base : Base) (old new : StoreState) → ReopensSaved closed closing config secret salt keys base old new
-    → (q : ℕ) → base.start.region < q → (pair_of keys q).salt ≡ Some salt
-reopened_own closed closing config secret salt keys base old new opens q own =
+    → (at : At) → base.start.region < at.region → (pair_at keys at).salt ≡ Some salt
+reopened_own closed closing config secret salt keys base old new opens at own =
     let start : base.start.region ≡ closing.region = ap (λ (b : Base). b.start.region) opens.is in
-    let above : closing.region < q = omega (arith, start, own) in
-    salted_own secret salt (salted_regions closed closing opens.listed) keys q opens.keyed
-    (above, all_before opens.listed q (λ i t is. let most = (opens.catalogue.are.each i t is).listed.region_most in omega (arith, most, above)))
+    let above : closing.region < at.region = omega (arith, start, own) in
+    salted_own secret salt (salted_regions closed closing opens.listed) keys at opens.keyed
+    (above, all_before opens.listed at.region (λ i t is. let most = (opens.catalogue.are.each i t is).listed.region_most in omega (arith, most, above)))
 
-own_saved : (mark : Mark) (config : Config) (secret salt : List ℕ) (keys : KeySet) (base : Base) (old new : StoreState) → BeginsSaved mark config secret salt keys base old new → (q : ℕ) → base.start.region < q → (pair_of keys q).salt ≡ Some salt
-own_saved Fresh config secret salt keys base old new begins q own = salted_own secret salt [] keys q begins.0.keyed tt
-own_saved InUse config secret salt keys base old new begins q own = absurd begins
-own_saved (Closed region blocks number pack) config secret salt keys base old new begins q own = reopened_own None (closing_named region blocks number pack) config secret salt keys base old new begins.1 q own
-own_saved Begun config secret salt keys base old new begins q own = salted_own secret salt [] keys q begins.0.keyed tt
-own_saved (Saved region blocks number pack closed) config secret salt keys base old new begins q own = reopened_own (Some closed) (closing_named region blocks number pack) config secret salt keys base old new begins.1 q own
+own_saved : (mark : Mark) (config : Config) (secret salt : List ℕ) (keys : KeySet) (base : Base) (old new : StoreState) → BeginsSaved mark config secret salt keys base old new → (at : At) → base.start.region < at.region → (pair_at keys at).salt ≡ Some salt
+own_saved Fresh config secret salt keys base old new begins at own = salted_own secret salt [] keys at begins.0.keyed tt
+own_saved InUse config secret salt keys base old new begins at own = absurd begins
+own_saved (Closed region blocks number pack) config secret salt keys base old new begins at own = reopened_own None (closing_named region blocks number pack) config secret salt keys base old new begins.1 at own
+own_saved Begun config secret salt keys base old new begins at own = salted_own secret salt [] keys at begins.0.keyed tt
+own_saved (Saved region blocks number pack closed check) config secret salt keys base old new begins at own = reopened_own (Some closed) (closing_named region blocks number pack) config secret salt keys base old new begins.2 at own
 
 -- ---- nothing is written while tables are opened
 abbrev Silent : List Access → Type 0
@@ -101,7 +104,7 @@ silent_saved Fresh config secret salt keys base old new begins = subst (λ (b : 
 silent_saved InUse config secret salt keys base old new begins = absurd begins
 silent_saved (Closed region blocks number pack) config secret salt keys base old new begins = subst (λ (b : Base). Silent b.before) (sym begins.1.is) (silent_opening (closing_named region blocks number pack) begins.1.listed)
 silent_saved Begun config secret salt keys base old new begins = subst (λ (b : Base). Silent b.before) (sym begins.0.is) tt
-silent_saved (Saved region blocks number pack closed) config secret salt keys base old new begins = subst (λ (b : Base). Silent b.before) (sym begins.1.is) (silent_opening (closing_named region blocks number pack) begins.1.listed)
+silent_saved (Saved region blocks number pack closed check) config secret salt keys base old new begins = subst (λ (b : Base). Silent b.before) (sym begins.2.is) (silent_opening (closing_named region blocks number pack) begins.2.listed)
 
 -- ---- statements write to regions that the run makes, since none of their tables is an index
 none_indexed : (ts : List Table) (q : ℕ) → AreFlat (headings_of ts) → OfIndex ts q → ⊥
@@ -133,7 +136,7 @@ module _ {settings : Option Config} {flight : Option FlightSettings} {Takes : Ty
     own = λ i q x wrote.
         writes_own (flying flight run.base) run.keys run.session.ending run.session.story run.opened new.store (begun_flying flight run.base begun)
         (silent_saved run.began.mark run.config run.secret run.salt run.keys run.base old.store run.opened run.began.begins) run.session.accesses i q x wrote;
-    salted = λ q own. own_saved run.began.mark run.config run.secret run.salt run.keys run.base old.store run.opened run.began.begins q own;
+    salted = λ q x n own. own_saved run.began.mark run.config run.secret run.salt run.keys run.base old.store run.opened run.began.begins (at_of q x n) own;
     shown = λ tells.
         let both : IsSealed (PassesBoth run.base.public.pack) run.keys run.base.start (run.base.start.region + 1) run.opened new.store = record {
           each = λ q x block own live last good passes. (run.session.sealing.sealed tells).each q x block own live last good (passes.0, λ saves. passes.1);
@@ -142,7 +145,7 @@ module _ {settings : Option Config} {flight : Option FlightSettings} {Takes : Ty
   }
 
 -- two writes under one number are one
-one_number : (start : Start) (asked : List Access) (k l q r x y : ℕ) → Wrote asked k q x → Wrote asked l r y → number_at start asked k ≡ number_at start asked l → k ≡ l
+pub one_number : (start : Start) (asked : List Access) (k l q r x y : ℕ) → Wrote asked k q x → Wrote asked l r y → number_at start asked k ≡ number_at start asked l → k ≡ l
 one_number start asked k l q r x y first second same = elim (cases_lt k l) [
   | inl less ↦ let more = (alone start asked k q x first.is).behind l r y second less in absurd (omega (arith, more, same))
   | inr past ↦ elim (cases_lt l k) [
@@ -151,7 +154,7 @@ one_number start asked k l q r x y first second same = elim (cases_lt k l) [
   ]
 ]
 
-seals_once : {settings : Option Config} {flight : Option FlightSettings} {Takes : Type 0} {tracing : Bool} {old new : Outside} {k0 k1 : KeeperState} {ending : KeptEnding} {answers : List Answer} {report : Report}
+pub seals_once : {settings : Option Config} {flight : Option FlightSettings} {Takes : Type 0} {tracing : Bool} {old new : Outside} {k0 k1 : KeeperState} {ending : KeptEnding} {answers : List Answer} {report : Report}
     (ran : RunSaved settings flight Takes tracing old new k0 k1 ending answers report) (k l : ℕ) (salt : Option (List ℕ)) (number : ℕ) → Seals ran k salt number → Seals ran l salt number → k ≡ l
 seals_once (inl run) k l salt number first second = absurd first
 seals_once (inr (inl run)) k l salt number first second = absurd first
@@ -159,18 +162,18 @@ seals_once {new = new} (inr (inr run)) k l salt number first second =
     one_number run.base.start new.store.asked k l first.region second.region first.place second.place first.wrote second.wrote (sym first.numbered ∙ second.numbered)
 
 -- a block is sealed under the salt of its run
-record HasSalt (own salt : Option (List ℕ)) : Type 0 where
-  bytes : List ℕ
-  is : own ≡ Some bytes
-  same : salt ≡ Some bytes
+pub record HasSalt (own salt : Option (List ℕ)) : Type 0 where
+  pub bytes : List ℕ
+  pub is : own ≡ Some bytes
+  pub same : salt ≡ Some bytes
 
-seals_salt : {settings : Option Config} {flight : Option FlightSettings} {Takes : Type 0} {tracing : Bool} {old new : Outside} {k0 k1 : KeeperState} {ending : KeptEnding} {answers : List Answer} {report : Report}
+pub seals_salt : {settings : Option Config} {flight : Option FlightSettings} {Takes : Type 0} {tracing : Bool} {old new : Outside} {k0 k1 : KeeperState} {ending : KeptEnding} {answers : List Answer} {report : Report}
     (ran : RunSaved settings flight Takes tracing old new k0 k1 ending answers report) (k : ℕ) (salt : Option (List ℕ)) (number : ℕ) → Seals ran k salt number → HasSalt (saved_salt ran) salt
 seals_salt (inl run) k salt number seals = absurd seals
 seals_salt (inr (inl run)) k salt number seals = absurd seals
 seals_salt (inr (inr run)) k salt number seals =
     let alone = writes_alone run in
-    record { bytes = run.salt; is = refl; same = seals.salted ∙ alone.salted seals.region (alone.own k seals.region seals.place seals.wrote) }
+    record { bytes = run.salt; is = refl; same = seals.salted ∙ alone.salted seals.region seals.place number (alone.own k seals.region seals.place seals.wrote) }
 
 pub seals_alone : (words : List Text) (old new : Outside) (k0 k1 : KeeperState) (report : Report) (run : SavedRun words old new k0 k1 report) → SealsAlone run.ran
 seals_alone words old new k0 k1 report run = go run.ran

@@ -8,9 +8,9 @@ use Rattle.ob_base.specs.declared.access.Access.{Access}
 use Rattle.ob_base.specs.declared.config.Config.{Config}
 use Rattle.ob_base.specs.declared.config.Public.{Public}
 use Rattle.ob_base.specs.declared.fault.Failed.{Failed}
-use Rattle.ob_base.specs.declared.mark.Mark.{Mark}
-use Rattle.ob_base.specs.declared.mark.Mark.TheVariants as Marks
-use Rattle.ob_base.specs.declared.mark.Mark.TheVariants.{Fresh, InUse, Closed}
+use Rattle.ob_reopen.specs.declared.mark.Mark.{Mark}
+use Rattle.ob_reopen.specs.declared.mark.Mark.TheVariants as Marks
+use Rattle.ob_reopen.specs.declared.mark.Mark.TheVariants.{Fresh, InUse, Closed}
 use Rattle.ob_base.specs.declared.refusal.Stop.TheVariants.{NoMemory, SinkFault, Tampered}
 use Rattle.ob_reopen.specs.Closed.{IsClosedAs, NotClosed, StaysInUse, is_used_up}
 use Rattle.ob_reopen.specs.Reopened.{NotOpened, opened_start, opening_script}
@@ -20,7 +20,7 @@ use Rattle.ob_headline.specs.Endings.{last_line, status_of}
 use Rattle.ob_headline.specs.Tracing.{traced}
 use Rattle.ob_headline.specs.declared.ending.Ending.TheVariants.{Ran}
 use Rattle.ob_headline.specs.declared.ending.KeptEnding.{KeptEnding}
-use Rattle.ob_headline.specs.declared.ending.KeptEnding.TheVariants.{Plain, OtherPack, Saved, NoMark, NotClosed as LeftOpen, KeeperFault, StoreFault}
+use Rattle.ob_headline.specs.declared.ending.KeptEnding.TheVariants.{Plain, OtherPack, OtherKey, Saved, NoMark, NotClosed as LeftOpen, KeeperFault, StoreFault}
 use Rattle.ob_mean.specs.Verdict.{Tables}
 use Rattle.ob_print.specs.Cuts.{Outputs}
 use Rattle.ob_reopen.specs.Closings.{write_script}
@@ -42,6 +42,7 @@ use Rattle.ob_vault.specs.Tied.{TagFits}
 abbrev pub kept_status : KeptEnding → ℕ
 kept_status (Plain ending) = status_of ending
 kept_status OtherPack = 2
+kept_status OtherKey = 2
 kept_status Saved = 2
 kept_status StoreFault = 3
 kept_status LeftOpen = 9
@@ -51,6 +52,7 @@ kept_status KeeperFault = 10
 abbrev pub kept_line : KeptEnding → List ℕ
 kept_line (Plain ending) = last_line ending
 kept_line OtherPack = codes "! pack\n"
+kept_line OtherKey = codes "! key\n"
 kept_line Saved = codes "! saved\n"
 kept_line StoreFault = codes "! store fault\n"
 kept_line LeftOpen = codes "! not closed\n"
@@ -123,7 +125,7 @@ BeginsFrom InUse config keys base old new = ⊥
 BeginsFrom (Closed region blocks number pack) config keys base old new = (pack ≡ config.pack)
     × OpensClosing (closing_named region blocks number pack) config keys base old new
 BeginsFrom Marks.Begun config keys base old new = ⊥
-BeginsFrom (Marks.Saved region blocks number pack salt) config keys base old new = ⊥
+BeginsFrom (Marks.Saved region blocks number pack salt check) config keys base old new = ⊥
 
 -- and else the run ends: where it is in use, or one of runs that save, where it has another pack, where the tables can't
 -- be opened, or where memory is wanting
@@ -136,7 +138,7 @@ EndsFrom (Closed region blocks number pack) config keys ending old new =
     (NotReopened (closing_named region blocks number pack) keys ending old new)
     ((ending ≡ OtherPack) × (new ≡ old))
 EndsFrom Marks.Begun config keys ending old new = (ending ≡ Saved) × (new ≡ old)
-EndsFrom (Marks.Saved region blocks number pack salt) config keys ending old new =
+EndsFrom (Marks.Saved region blocks number pack salt check) config keys ending old new =
     (ending ≡ Saved) × (new ≡ old)
 
 abbrev pub EndsAtMark : Result Mark Failed → Config → KeySet → KeptEnding → (old new : StoreState)

@@ -4,7 +4,7 @@ use Rattle.std.proofs.Common.{inl, inr}
 use Rattle.clap.specs.Words.{Text}
 use Rattle.ob_base.specs.Accesses.{writes}
 use Rattle.ob_base.specs.declared.config.Config.{Config}
-use Rattle.ob_base.specs.declared.mark.Mark.{Mark}
+use Rattle.ob_reopen.specs.declared.mark.Mark.{Mark}
 use Rattle.ob_headline.specs.Bases.{drawing, flying, start}
 use Rattle.ob_headline.specs.Failures.{failures}
 use Rattle.ob_headline.specs.Flights.{seats_alone, trace_of}

@@ -33,6 +33,8 @@ pub mod KeptRuns
 pub mod Saving
 pub mod SavedHeadline
 pub mod SavedRuns
+pub mod SaltedHeadline
+pub mod SaltedRuns
 pub mod Pieces
 pub mod Plainly
 pub mod Reruns

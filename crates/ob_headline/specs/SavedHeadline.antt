@@ -3,7 +3,7 @@
 use Rattle.std.specs.Prelude.{ℕ, ◌≡◌, ◌≢◌, ◌<◌, ◌⊎◌, Bool, List, [], ◌∷◌, ◌++◌, length, map, take, drop, Option, Some, None, Ok, Err}
 use Rattle.ob_base.specs.Counts.{Rises}
 use Rattle.ob_base.specs.declared.config.Config.{Config}
-use Rattle.ob_base.specs.declared.mark.Mark.{Mark}
+use Rattle.ob_reopen.specs.declared.mark.Mark.{Mark}
 use Rattle.ob_base.specs.declared.refusal.Stop.TheVariants.{KeeperFault, SinkFault}
 use Rattle.ob_headline.specs.Bases.{Base, FromEach, drawing, flying}
 use Rattle.ob_headline.specs.Batches.{AllInsert}
@@ -30,6 +30,7 @@ use Rattle.ob_reopen.specs.Closings.{saved_mark}
 use Rattle.ob_reopen.specs.Keepers.{KeeperState}
 use Rattle.ob_reopen.specs.declared.closing.Closing.{Closing}
 use Rattle.ob_seal.specs.KeySet.{KeySet}
+use Rattle.ob_seal.specs.Sealed.{check_of}
 use Rattle.ob_sql.specs.declared.stmt.Stmt.{Stmt}
 use Rattle.ob_store.specs.State.{KeptRegion, StoreState}
 
@@ -99,10 +100,10 @@ pub record RestsBehind (base : Base) (secret : List ℕ) (keys : KeySet) (ending
   pub rests : RestsAlike secret mark kept (left_by more (seats_of base story.entries)
       (drawing keys s) story.spelt story.answers broken)
 
--- the mark of a closing that the run wrote, under its own salt
-pub record SavesAs (salt : List ℕ) (base : Base) (mark : Mark) : Type 0 where
+-- the mark of a closing that the run wrote, under its own salt, with the check value of that under its secret
+pub record SavesAs (secret salt : List ℕ) (base : Base) (mark : Mark) : Type 0 where
   pub closing : Closing
-  pub is : mark ≡ saved_mark closing salt
+  pub is : mark ≡ saved_mark closing salt (check_of secret (Some salt))
   pub pack : closing.pack ≡ base.public.pack
   pub region : base.start.region < closing.region
   pub number : base.start.writes < closing.number
@@ -111,7 +112,7 @@ pub record SavesAs (salt : List ℕ) (base : Base) (mark : Mark) : Type 0 where
 -- gave what was written, the tables rest for it
 pub record LeavesMark (secret salt : List ℕ) (base : Base) (keys : KeySet) (ending : Ending)
     (story : Story) (begun new : StoreState) (held mark : Mark) : Type 0 where
-  pub which : (mark ≡ held) ⊎ SavesAs salt base mark
+  pub which : (mark ≡ held) ⊎ SavesAs secret salt base mark
   pub rests : IsHonest begun new
       → FromEach base (λ s. RestsBehind base secret keys ending story mark new.kept s)
 

@@ -1,11 +1,12 @@
 -- Runs that save their tables, each over the mark and the store that the one before it left, whatever became of that.
-use Rattle.std.specs.Prelude.{ℕ, ◌≡◌, ◌⊎◌, ◌<◌, ◌+◌, ◌^◌, ⊤, Bool, false, IsTrue, if◌then◌else◌, List, [], ◌∷◌, ◌++◌, length, map, take, slice_get, Option, Some, None, Ok, Err}
+use Rattle.std.specs.Prelude.{ℕ, ◌≡◌, ◌≢◌, ◌⊎◌, ◌<◌, ◌+◌, ◌^◌, ⊤, Bool, false, IsTrue, if◌then◌else◌, List, [], ◌∷◌, ◌++◌, length, map, take, slice_get, Option, Some, None, Ok, Err}
 use Rattle.std.proofs.Common.{inl, inr}
 use Rattle.clap.specs.Words.{Text}
 use Rattle.ob_base.specs.Refusals.{is_store_fault}
 use Rattle.ob_base.specs.declared.access.Access.{Access}
 use Rattle.ob_base.specs.declared.config.Config.{Config}
-use Rattle.ob_base.specs.declared.mark.Mark.{Mark}
+use Rattle.ob_reopen.specs.declared.mark.Mark.{Mark}
+use Rattle.ob_reopen.specs.declared.mark.Mark.TheVariants.{Fresh, InUse, Closed, Begun, Saved}
 use Rattle.ob_headline.specs.Bases.{Base, flying, start}
 use Rattle.ob_headline.specs.Flights.{trace_of}
 use Rattle.ob_headline.specs.KeptHeadline.{PassesBoth, begun_at}
@@ -18,15 +19,18 @@ use Rattle.ob_headline.specs.Shown.{Shows, Wrote, number_at}
 use Rattle.ob_headline.specs.Usage.{is_traced, saved_usage}
 use Rattle.ob_headline.specs.Words.{Answer, Outside, refused_at}
 use Rattle.ob_headline.specs.declared.ending.KeptEnding.{KeptEnding}
+use Rattle.ob_headline.specs.declared.ending.KeptEnding.TheVariants.{OtherKey, OtherPack, KeeperFault}
 use Rattle.ob_headline.specs.declared.ending.Report.{Report}
 use Rattle.ob_headline.specs.declared.flight.FlightSettings.{FlightSettings}
 use Rattle.ob_mean.specs.Batches.{batch_most}
 use Rattle.ob_mean.specs.Replay.{Alone, Session, Spelt, after, after_all, is_full_now}
 use Rattle.ob_mean.specs.Verdict.{Tables}
 use Rattle.ob_reopen.specs.Keepers.{KeeperState}
-use Rattle.ob_seal.specs.KeySet.{KeySet, pair_of}
+use Rattle.ob_seal.specs.KeySet.{KeySet, pair_at}
+use Rattle.ob_seal.specs.Sealed.{check_of}
 use Rattle.ob_sql.specs.declared.stmt.Stmt.{Stmt}
 use Rattle.ob_store.specs.State.{KeptRegion, StoreState}
+use Rattle.ob_vault.specs.Tied.{at_of}
 use Rattle.ob_verdict.specs.declared.outcome.Outcome.{Outcome}
 use Rattle.ob_verdict.specs.declared.outcome.Outcome.TheVariants.{Created, Inserted, Changed, Deleted, Dropped, Rows, Refused}
 
@@ -72,7 +76,7 @@ abbrev pub MayLeave : {settings : Option Config} {flight : Option FlightSettings
 MayLeave (inl run) held mark = mark ≡ held
 MayLeave (inr (inl run)) held mark = (mark ≡ held) ⊎ (mark ≡ begun_mark held)
 MayLeave {flight = flight} (inr (inr run)) held mark =
-    (mark ≡ begun_mark held) ⊎ SavesAs run.salt (flying flight run.base) mark
+    (mark ≡ begun_mark held) ⊎ SavesAs run.secret run.salt (flying flight run.base) mark
 
 -- and what rested for it under the secret, if none was served, rests
 pub record Outlasts (secret : List ℕ) (held mark : Mark) (old new : StoreState) : Type 0 where
@@ -190,6 +194,21 @@ saved_count (inr (inl run)) = 0
 saved_count {flight = flight} (inr (inr run)) = run.base.count
     + length (trace_of (flying flight run.base) run.session.story.entries)
 
+-- ---- a secret that isn't that of the run before
+-- the mark is one of a run that saves, with another check value than this secret has for its salt
+abbrev pub IsOfOther : (secret : List ℕ) → Mark → Type 0
+IsOfOther secret Fresh = ⊥
+IsOfOther secret InUse = ⊥
+IsOfOther secret (Closed region blocks number pack) = ⊥
+IsOfOther secret Begun = ⊥
+IsOfOther secret (Saved region blocks number pack salt check) =
+    check ≢ check_of secret (Some salt)
+
+-- the store was asked for nothing, and nothing is said of what lies in it
+pub record IsToldWrong (ending : KeptEnding) (old new : StoreState) : Type 0 where
+  pub ends : (ending ≡ OtherKey) ⊎ ((ending ≡ OtherPack) ⊎ (ending ≡ KeeperFault))
+  pub unasked : new ≡ old
+
 -- ---- runs that answer as one
 -- its secret is this one, if it took one, the store tells what it holds and gave what was written, and no statement came so
 -- late that it is refused for that; its calls may fail, and it may end in any way
@@ -292,7 +311,7 @@ pub record SealsOne (base : Base) (keys : KeySet) (asked : List Access) (positio
   pub region : ℕ
   pub place : ℕ
   pub wrote : Wrote asked position region place
-  pub salted : salt ≡ (pair_of keys region).salt
+  pub salted : salt ≡ (pair_at keys (at_of region place number)).salt
   pub numbered : number ≡ number_at base.start asked position
 
 -- a run writes nothing before its first statement
@@ -306,8 +325,8 @@ Seals (inr (inl run)) position salt number = ⊥
 Seals {new = new} (inr (inr run)) position salt number =
     SealsOne run.base run.keys new.store.asked position salt number
 
--- each write goes to a region that the run made, whose keys are those of its own salt; and over a store that tells each block
--- that lies in such a region once it ended is sealed by one of them
+-- each write goes to a region that the run made, the keys of whose blocks are those of its own salt; and over a store that
+-- tells each block that lies in such a region once it ended is sealed by one of them
 pub record WritesAlone {settings : Option Config} {flight : Option FlightSettings}
     {Takes : Type 0} {tracing : Bool} {old new : Outside} {keeper0 keeper1 : KeeperState}
     {ending : KeptEnding} {answers : List Answer} {report : Report}
@@ -315,8 +334,8 @@ pub record WritesAlone {settings : Option Config} {flight : Option FlightSetting
     : Type 0 where
   pub own : (position region place : ℕ) → Wrote new.store.asked position region place
       → run.base.start.region < region
-  pub salted : (region : ℕ) → run.base.start.region < region
-      → (pair_of run.keys region).salt ≡ Some run.salt
+  pub salted : (region place number : ℕ) → run.base.start.region < region
+      → (pair_at run.keys (at_of region place number)).salt ≡ Some run.salt
   pub shown : IsTrue run.opened.tells → Shows (PassesBoth run.base.public.pack) run.keys
       run.base.start run.opened new.store
 

@@ -1,19 +1,19 @@
 -- How a run begins that saves its tables, by the mark that its keeper holds, why it doesn't, and what rests for a mark.
-use Rattle.std.specs.Prelude.{ℕ, ◌≡◌, ◌⊎◌, ◌==◌, Bool, IsTrue, List, [], MatchBool, Option, Some, None, Result, Ok, Err}
+use Rattle.std.specs.Prelude.{ℕ, ◌≡◌, ◌≢◌, ◌⊎◌, ◌==◌, Bool, IsTrue, List, [], MatchBool, Option, Some, None, Result, Ok, Err}
 use Rattle.std.specs.Io.KnownBytes.{Appends}
 use Rattle.ob_base.specs.Counts.{Rises}
 use Rattle.ob_base.specs.Stored.{headings, headings_of}
 use Rattle.ob_base.specs.declared.config.Config.{Config}
 use Rattle.ob_base.specs.declared.fault.Failed.{Failed}
-use Rattle.ob_base.specs.declared.mark.Mark.{Mark}
-use Rattle.ob_base.specs.declared.mark.Mark.TheVariants.{Fresh, InUse, Closed, Begun, Saved}
+use Rattle.ob_reopen.specs.declared.mark.Mark.{Mark}
+use Rattle.ob_reopen.specs.declared.mark.Mark.TheVariants.{Fresh, InUse, Closed, Begun, Saved}
 use Rattle.ob_base.specs.declared.refusal.Stop.TheVariants.{NoMemory, SinkFault}
 use Rattle.ob_headline.specs.Bases.{Base, fresh, reopened}
 use Rattle.ob_headline.specs.Keeping.{closing_named, opening_end}
 use Rattle.ob_headline.specs.Tracing.{traced}
 use Rattle.ob_headline.specs.declared.ending.Ending.TheVariants.{Ran}
 use Rattle.ob_headline.specs.declared.ending.KeptEnding.{KeptEnding}
-use Rattle.ob_headline.specs.declared.ending.KeptEnding.TheVariants.{Plain, OtherPack, NoMark, NotClosed as LeftOpen, KeeperFault, StoreFault}
+use Rattle.ob_headline.specs.declared.ending.KeptEnding.TheVariants.{Plain, OtherPack, OtherKey, NoMark, NotClosed as LeftOpen, KeeperFault, StoreFault}
 use Rattle.ob_mean.specs.Verdict.{Tables}
 use Rattle.ob_reopen.specs.Keepers.{DrawsSalt, GivesMark, KeeperState, SetsMark}
 use Rattle.ob_reopen.specs.Limits.{IsCatalogue}
@@ -25,7 +25,7 @@ use Rattle.ob_reopen.specs.declared.fault.OpenErr.{OpenErr}
 use Rattle.ob_reopen.specs.declared.fault.OpenErr.TheVariants as OpenErrs
 use Rattle.ob_reopen.specs.declared.listed.Listed.{Listed}
 use Rattle.ob_seal.specs.KeySet.{KeySet}
-use Rattle.ob_seal.specs.Sealed.{keys_salted}
+use Rattle.ob_seal.specs.Sealed.{check_of, keys_salted}
 use Rattle.ob_store.specs.Calls.{IsBare, Sweeps, Syncs}
 use Rattle.ob_store.specs.Runs.{Did}
 use Rattle.ob_store.specs.State.{KeptRegion, Lie, StoreState}
@@ -34,15 +34,16 @@ use Rattle.ob_verdict.specs.Alike.{AreAlike}
 
 -- ---- what rests for a mark
 -- these tables do, under a secret: none before the first were saved, and those that the mark's closing lists else, by the
--- salt that the mark names
+-- salt that the mark names, with the check value that the secret has for it
 abbrev pub RestsAt : (secret : List ℕ) → Mark → (kept : ℕ → Option KeptRegion) → Tables → Type 0
 RestsAt secret Fresh kept tables = tables ≡ []
 RestsAt secret InUse kept tables = ⊥
 RestsAt secret (Closed region blocks number pack) kept tables =
     RestsBy secret None (closing_named region blocks number pack) kept tables
 RestsAt secret Begun kept tables = tables ≡ []
-RestsAt secret (Saved region blocks number pack salt) kept tables =
-    RestsBy secret (Some salt) (closing_named region blocks number pack) kept tables
+RestsAt secret (Saved region blocks number pack salt check) kept tables =
+    (check ≡ check_of secret (Some salt))
+    × RestsBy secret (Some salt) (closing_named region blocks number pack) kept tables
 
 -- tables that are these, in whichever order
 pub record RestsAlike (secret : List ℕ) (mark : Mark) (kept : ℕ → Option KeptRegion)
@@ -57,7 +58,7 @@ begun_mark Fresh = Begun
 begun_mark InUse = InUse
 begun_mark (Closed region blocks number pack) = Closed region blocks number pack
 begun_mark Begun = Begun
-begun_mark (Saved region blocks number pack salt) = Saved region blocks number pack salt
+begun_mark (Saved region blocks number pack salt check) = Saved region blocks number pack salt check
 
 -- ---- the beginning
 -- the store has no region, where it tells
@@ -110,7 +111,7 @@ pub record ReopensSaved (closed : Option (List ℕ)) (closing : Closing) (config
       → StaysAtRest secret closed closing keys base old new tables
 
 -- by the mark: there are no tables where it is fresh, and the store too, or where no run has saved any; and those of its
--- closing are opened where this has the pack of the settings
+-- closing are opened where this has the pack of the settings, and the check value of a run that saves is that of the secret
 abbrev pub BeginsSaved : Mark → Config → (secret salt : List ℕ) → KeySet → Base
     → (old new : StoreState) → Type 0
 BeginsSaved Fresh config secret salt keys base old new =
@@ -121,8 +122,9 @@ BeginsSaved (Closed region blocks number pack) config secret salt keys base old 
     config secret salt keys base old new
 BeginsSaved Begun config secret salt keys base old new =
     BeginsAnew config secret salt keys base × Sweeps old new
-BeginsSaved (Saved region blocks number pack closed) config secret salt keys base old new =
-    (pack ≡ config.pack) × ReopensSaved (Some closed) (closing_named region blocks number pack)
+BeginsSaved (Saved region blocks number pack closed check) config secret salt keys base old new =
+    (pack ≡ config.pack) × (check ≡ check_of secret (Some closed))
+    × ReopensSaved (Some closed) (closing_named region blocks number pack)
     config secret salt keys base old new
 
 -- what the keeper is handed before the store is asked for anything: from a fresh mark `Begun`, and else nothing
@@ -135,7 +137,7 @@ HandsBegun Fresh result old new = SetsMark Begun result old new
 HandsBegun InUse result old new = ⊥
 HandsBegun (Closed region blocks number pack) result old new = HandsNothing result old new
 HandsBegun Begun result old new = HandsNothing result old new
-HandsBegun (Saved region blocks number pack salt) result old new = HandsNothing result old new
+HandsBegun (Saved region blocks number pack salt check) result old new = HandsNothing result old new
 
 -- the keeper gave a mark and drew a salt, and it was begun from; the accesses were traced
 pub record BeganSaved (config : Config) (secret salt : List ℕ) (keys : KeySet) (tracing : Bool)
@@ -163,7 +165,7 @@ RefusesMark Fresh ending old new = IsNotBare ending old new
 RefusesMark InUse ending old new = (ending ≡ LeftOpen) × (new ≡ old)
 RefusesMark (Closed region blocks number pack) ending old new = ⊥
 RefusesMark Begun ending old new = ⊥
-RefusesMark (Saved region blocks number pack salt) ending old new = ⊥
+RefusesMark (Saved region blocks number pack salt check) ending old new = ⊥
 
 -- so far nothing was opened: from a fresh mark the store has no region
 abbrev pub LooksBare : Mark → (old new : StoreState) → Type 0
@@ -171,7 +173,7 @@ LooksBare Fresh old new = IsFoundBare old new
 LooksBare InUse old new = ⊥
 LooksBare (Closed region blocks number pack) old new = new ≡ old
 LooksBare Begun old new = new ≡ old
-LooksBare (Saved region blocks number pack salt) old new = new ≡ old
+LooksBare (Saved region blocks number pack salt check) old new = new ≡ old
 
 -- the tables of a closing weren't opened; a store that told the truth, and in which tables rested as the mark says, is not
 -- taken for a changed one, and what is kept stays
@@ -185,6 +187,21 @@ pub record StaysShut (closed : Option (List ℕ)) (closing : Closing) (secret sa
       → (error ≡ OpenErrs.Failed) ⊎ (error ≡ OpenErrs.NoMemory)
   pub kept : (q : ℕ) → new.kept q ≡ old.kept q
 
+-- the mark was left under another secret, which its check value tells before the store is asked for anything: so a store that
+-- told the truth isn't taken for a changed one under a wrong secret, either
+abbrev pub IsOtherKey : (secret closed check : List ℕ) → KeptEnding → (old new : StoreState)
+    → Type 0
+IsOtherKey secret closed check ending old new =
+    (check ≢ check_of secret (Some closed)) × (ending ≡ OtherKey) × (new ≡ old)
+
+-- the tables of a run that saves weren't opened: the check value is that of the secret, or another one
+abbrev pub StaysLocked : (closed check : List ℕ) → Closing → (secret salt : List ℕ) → KeptEnding
+    → (old new : StoreState) → Type 0
+StaysLocked closed check closing secret salt ending old new =
+    ((check ≡ check_of secret (Some closed))
+    × StaysShut (Some closed) closing secret salt ending old new)
+    ⊎ IsOtherKey secret closed check ending old new
+
 -- by the mark: its tables weren't opened, or have another pack; without a closing memory is wanting
 abbrev pub EndsShut : Mark → Config → (secret salt : List ℕ) → KeptEnding
     → (old new : StoreState) → Type 0
@@ -197,9 +214,9 @@ EndsShut (Closed region blocks number pack) config secret salt ending old new =
     ((ending ≡ OtherPack) × (new ≡ old))
 EndsShut Begun config secret salt ending old new =
     (ending ≡ Plain (Ran (Err NoMemory))) × (new ≡ old)
-EndsShut (Saved region blocks number pack closed) config secret salt ending old new =
+EndsShut (Saved region blocks number pack closed check) config secret salt ending old new =
     MatchBool (pack == config.pack)
-    (StaysShut (Some closed) (closing_named region blocks number pack) secret salt ending old new)
+    (StaysLocked closed check (closing_named region blocks number pack) secret salt ending old new)
     ((ending ≡ OtherPack) × (new ≡ old))
 
 -- the keeper failed at `Begun`, and the store was asked for nothing

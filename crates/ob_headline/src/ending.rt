@@ -19,6 +19,8 @@ pub enum KeptEnding {
     Plain(Ending),
     /// The tables that are kept have another pack.
     OtherPack,
+    /// Their mark was left under another secret.
+    OtherKey,
     /// They are those of a run that saves them.
     Saved,
     /// There is no mark, and the store has regions of a run.

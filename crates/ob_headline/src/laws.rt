@@ -1,10 +1,10 @@
 //! What follows of whole runs, and how bytes are cut into texts.
-ghost use Rattle.std.specs.Prelude.{◌≡◌, ◌<◌, ◌≤◌, Bool, List, [], ℕ, IsSome, IsTrue, None, Option, Some, false, true, length, slice_get};
+ghost use Rattle.std.specs.Prelude.{◌≡◌, ◌≢◌, ◌<◌, ◌≤◌, Bool, List, [], ℕ, IsSome, IsTrue, None, Option, Some, false, true, length, slice_get};
 ghost use Rattle.clap.specs.Words.{App, Text};
 ghost use Rattle.ob_base.specs.declared.config.Config.{Config};
 ghost use Rattle.ob_base.specs.declared.config.Public.{Public};
-ghost use Rattle.ob_base.specs.declared.mark.Mark.{Mark};
-ghost use Rattle.ob_base.specs.declared.mark.Mark.TheVariants.{Fresh};
+ghost use Rattle.ob_reopen.specs.declared.mark.Mark.{Mark};
+ghost use Rattle.ob_reopen.specs.declared.mark.Mark.TheVariants.{Fresh};
 ghost use Rattle.ob_base.specs.declared.seen.Seen.{Seen};
 ghost use Rattle.ob_headline.specs.Bases.{Base, FromEach, drawing, flying, fresh};
 ghost use Rattle.ob_headline.specs.Batches.{Joins};
@@ -19,9 +19,11 @@ ghost use Rattle.ob_headline.specs.Plainly.{IsUnhindered, RunsPlainly};
 ghost use Rattle.ob_headline.specs.Reruns.{Alike, AlikeSoFar, AsksAsShown, AsksByKinds, EndsWell, GoOnFromOne, IsPlain};
 ghost use Rattle.ob_headline.specs.Reruns.{OneBegins, ServesAlone, ShowAlike, ShowTheSame, SomeRun, any_counted, asked_by, failures_of};
 ghost use Rattle.ob_headline.specs.Reruns.{keys_by, plainly, seats_by, seen_by, stated_of};
-ghost use Rattle.ob_headline.specs.SavedRuns.{AnswerInOne, AnySaved, GoOnSaved, HaveOwnSalts, LeavesHeld, OneSaved};
-ghost use Rattle.ob_headline.specs.SavedRuns.{SavedRun, Seals, SealsAlone};
-ghost use Rattle.ob_headline.specs.Saving.{BeginsSaved};
+ghost use Rattle.ob_headline.specs.SaltedHeadline.{own_keys};
+ghost use Rattle.ob_headline.specs.SaltedRuns.{AnySalted, HaveSalts, SealsIn};
+ghost use Rattle.ob_headline.specs.SavedRuns.{AnswerInOne, AnySaved, GoOnSaved, HaveOwnSalts, IsOfOther, IsToldWrong};
+ghost use Rattle.ob_headline.specs.SavedRuns.{LeavesHeld, OneSaved, SavedRun, Seals, SealsAlone, saved_secret};
+ghost use Rattle.ob_headline.specs.Saving.{BeginsSaved, RestsAt};
 ghost use Rattle.ob_headline.specs.Settings.{IsTaken, IsTakenSaved, MeddleParses, flight_of};
 ghost use Rattle.ob_headline.specs.Shown.{AskedTheSame, IsBegun, IsBetween, OfIndex, ShowNumbersAlike, ShowsBehind};
 ghost use Rattle.ob_headline.specs.Shown.{ShowsBetween, ShowsKept, ShowsSealed, WriteOwn, Wrote, asked_behind};
@@ -29,16 +31,19 @@ ghost use Rattle.ob_headline.specs.Shown.{public_behind};
 ghost use Rattle.ob_headline.specs.Texts.{is_over, rest_of, texts_of};
 ghost use Rattle.ob_headline.specs.Usage.{is_kept, is_saved, kept_usage, saved_usage};
 ghost use Rattle.ob_headline.specs.Words.{Outside};
+ghost use Rattle.ob_headline.specs.declared.ending.KeptEnding.TheVariants.{OtherKey};
 ghost use Rattle.ob_headline.specs.declared.ending.Report.{Report};
 ghost use Rattle.ob_headline.specs.declared.flight.FlightSettings.{FlightSettings};
 ghost use Rattle.ob_mean.specs.Batches.{Gathering, is_cut};
 ghost use Rattle.ob_mean.specs.Lawful.{Lawful};
+ghost use Rattle.ob_mean.specs.Verdict.{Tables};
 ghost use Rattle.ob_reopen.specs.Keepers.{KeeperState};
 ghost use Rattle.ob_seal.specs.Draws.{draw_of};
-ghost use Rattle.ob_seal.specs.KeySet.{KeySet};
+ghost use Rattle.ob_seal.specs.KeySet.{KeySet, pair_at};
 ghost use Rattle.ob_sql.specs.declared.stmt.Stmt.{Stmt};
 ghost use Rattle.ob_store.specs.State.{KeptRegion, StoreState};
 ghost use Rattle.ob_token.specs.Cutting.{cut};
+ghost use Rattle.ob_vault.specs.Tied.{at_of};
 
 /// The texts that a session cuts, a byte at a time, are the pieces that `split` finds in its bytes, one after the
 /// other, while none comes to the limit of a text: the first piece is the first text, or none where it holds nothing,
@@ -250,6 +255,23 @@ pub fn saved_marks_are_held()
         (held : Mark) → keeper0.held ≡ Some held → LeavesHeld run.ran held }
 {}
 
+/// A run with `--save` whose secret isn't that of the run which left the mark that is held, as its check value tells, ends
+/// before the store is asked for anything: with `OtherKey`, unless the tables have another pack or the keeper failed. So a
+/// wrong secret isn't taken for a change. Where tables rest for the mark under its secret, a run doesn't end with `OtherKey`.
+pub fn wrong_secrets_are_told()
+    ensures wrong { (words : List Text) (old new : Outside) (keeper0 keeper1 : KeeperState)
+        (report : Report) (run : SavedRun words old new keeper0 keeper1 report)
+        (secret : List ℕ) → saved_secret run.ran ≡ Some secret
+        → (held : Mark) → keeper0.held ≡ Some held → IsOfOther secret held
+        → IsToldWrong run.ending old.store new.store }
+    ensures own { (words : List Text) (old new : Outside) (keeper0 keeper1 : KeeperState)
+        (report : Report) (run : SavedRun words old new keeper0 keeper1 report)
+        (secret : List ℕ) → saved_secret run.ran ≡ Some secret
+        → (held : Mark) → keeper0.held ≡ Some held
+        → (tables : Tables) → RestsAt secret held old.store.kept tables
+        → run.ending ≢ OtherKey }
+{}
+
 /// Runs with the same words, `--save` among them and `--flight` not, and of one secret, each ended in any way, the first
 /// over a fresh mark and each later one over the mark and the regions that the one before it left, where the store tells
 /// and gave what was written: they answer as one run does over the texts that took effect, which are those that were
@@ -274,4 +296,16 @@ pub fn saved_numbers_are_apart()
     ensures alone { (words : List Text) (old new : Outside) (keeper0 keeper1 : KeeperState)
         (report : Report) (run : SavedRun words old new keeper0 keeper1 report)
         → SealsAlone run.ran }
+{}
+
+/// So it is of all runs of `oblidb` but those with `--keep`, to which the keeper gave distinct salts: no two writes, of runs
+/// that save their tables or of runs that don't, seal a block under one salt and one number, whatever their secrets. And each
+/// block of a run that neither keeps nor saves them is by the keys of its own salt.
+pub fn salted_numbers_are_apart()
+    ensures apart { (runs : List AnySalted) → HaveSalts runs → (i j k l : ℕ) (a b : AnySalted)
+        (salt : Option (List ℕ)) (number : ℕ) → slice_get runs i ≡ Some a
+        → slice_get runs j ≡ Some b → SealsIn a k salt number → SealsIn b l salt number
+        → (i ≡ j) × (k ≡ l) }
+    ensures alone { (secret salt : List ℕ) (region place number : ℕ)
+        → (pair_at (own_keys secret salt) (at_of region place number)).salt ≡ Some salt }
 {}

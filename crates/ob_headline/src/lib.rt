@@ -15,6 +15,6 @@ pub use laws::{
     reruns_show_the_same, runs_answer_as_one, runs_begin_behind_earlier_ones, saved_marks_are_held,
     saved_numbers_are_apart, saved_runs_answer_as_one, shows_its_refusal_alone,
     statements_write_their_own, texts_are_pieces, unflown_runs_go_one_by_one,
-    unhindered_runs_are_plain,
+    unhindered_runs_are_plain, wrong_secrets_are_told,
 };
 pub use seed::Seed;

@@ -47,10 +47,7 @@ module _ (access : Access) (own : Option ℕ) (w v : World) where
 -- ---- numbers of regions
 pub made_same : (a : Access) → made a ≡ made_by (Some a)
 made_same (Make q blocks len) = refl
-made_same (Read q x) = refl
-made_same (Write q x) = refl
-made_same (Discard q) = refl
-made_same (Open q blocks len) = refl
+made_same other = refl
 
 pub next_made : (a : Access) (w v : World) → Ready w → Ready v → v.vault.start ≡ w.vault.start → v.store.asked ≡ w.store.asked ++ a ∷ [] → v.vault.next ≡ w.vault.next + made_by (Some a)
 next_made a w v before after start asked =
@@ -72,10 +69,7 @@ module _ (next : ℕ) (before after : Option ℕ) where
 
   pub region_cases : (a : Access) → KeepsRegion a next before after → Region a
   region_cases (Make q blocks len) keeps = Next keeps.makes.1 (keeps.now ∙ ap Some keeps.makes.0) refl
-  region_cases (Read q x) keeps = Same keeps.now refl
-  region_cases (Write q x) keeps = Same keeps.now refl
-  region_cases (Discard q) keeps = Same keeps.now refl
-  region_cases (Open q blocks len) keeps = Same keeps.now refl
+  region_cases other keeps = Same keeps.now refl
 
   pub region_own : (a : Access) → KeepsRegion a next before after → (q : ℕ) → after ≡ Some q → own_or_next before next q
   region_own a keeps q is = elim (region_cases a keeps) [
@@ -151,6 +145,4 @@ reads_more lie asked more is = record {
 -- a fault of the store is none where a step gave up by anything else
 pub stops_faults : (e : OpErr) (w v : World) → (e ≡ Failed → ⊥) → PassCause e w v → v.store.faults ≡ w.store.faults
 stops_faults Failed w v never cause = absurd (never refl)
-stops_faults (Tampered q x) w v never cause = cause.0
-stops_faults Sink w v never cause = cause.0
-stops_faults NoMemory w v never cause = cause.0
+stops_faults other w v never cause = cause.0

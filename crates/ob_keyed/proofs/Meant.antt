@@ -49,19 +49,12 @@ use Rattle.ob_keyed.specs.Meant.{AccessesMean, AnswersStmt, MeansAccess}
 -- ---- an answer as an outcome
 put_is : (table : List ℕ) (columns : Option (List (List ℕ))) (values : List Literal) (got : Got Row) → outcome_of (Insert table columns values) (put_answer got) ≡ put_outcome got
 put_is table columns values Absent = refl
-put_is table columns values (Found row) = refl
-put_is table columns values Done = refl
-put_is table columns values Duplicate = refl
-put_is table columns values OutOfRange = refl
+put_is table columns values other = refl
 
 pub outcome_is : (stmt : Stmt) (hs : List Heading) (got : Got Row) → outcome_of stmt (got_answer stmt hs got) ≡ got_outcome stmt got
-outcome_is (Create table columns capacity shape) hs got = refl
 outcome_is (Insert table columns values) hs got = put_is table columns values got
-outcome_is (Update table sets cond) hs got = refl
-outcome_is (Delete table cond) hs got = refl
-outcome_is (DropTable table) hs got = refl
 outcome_is (RowsStmt q) hs got = ap (λ (n : ℕ). O.Rows n) (length-map (found got) (printed (printed_places q (select_columns q hs))))
-outcome_is (TotalsStmt q) hs got = refl
+outcome_is other hs got = refl
 
 -- ---- what refuses it
 or_none : (o : Option Refusal) → option_or o None ≡ o
@@ -69,13 +62,8 @@ or_none None = refl
 or_none (Some r) = refl
 
 no_last : (p : Public) (ts : Tables) (stmt : Stmt) (a : Accessed) → accessed ts stmt ≡ Some a → last_refusal p ts stmt ≡ None
-no_last p ts (Create table columns capacity shape) a is = refl
-no_last p ts (Insert table columns values) a is = refl
-no_last p ts (Update table sets cond) a is = refl
-no_last p ts (Delete table cond) a is = refl
-no_last p ts (DropTable table) a is = refl
 no_last p ts (RowsStmt q) a is = ap (λ (o : Option Accessed). if is_some o then None else rows_refusal p (selected_places p q ts)) is
-no_last p ts (TotalsStmt q) a is = refl
+no_last p ts other a is = refl
 
 -- an INSERT is refused where its key is there, or is none of the index
 put_by : (there within : Bool) (got : Got Row) → (there ≡ true → got ≡ Duplicate) → (there ≡ false → within ≡ true → got ≡ Done) → (there ≡ false → within ≡ false → got ≡ OutOfRange)
@@ -151,9 +139,6 @@ module _ (d : Draws) (p : Public) (m : ℕ) (ts : Tables) (stmt : Stmt) (a : Acc
     -- by the kind of the statement
     answer_by : (s : Stmt) → keyed_table ts s ≡ Some a.table → ask_of a.table.heading s ≡ Some a.ask
         → answered (late_refusal (buffered p.pack p.buffer) (database ts) s) (accepted_answer (database ts) s) ≡ got_answer s (headings ts) w.got
-    answer_by (Create table columns capacity shape) there asked = absurd (cc there)
-    answer_by (DropTable table) there asked = absurd (cc there)
-    answer_by (TotalsStmt q) there asked = absurd (cc there)
     answer_by (Insert table columns values) there asked =
         let row : Row = new_row a.table.heading.schema columns values in
         let ask_is : a.ask ≡ Put row = cc asked in
@@ -176,6 +161,7 @@ module _ (d : Draws) (p : Public) (m : ℕ) (ts : Tables) (stmt : Stmt) (a : Acc
             let b = asked_of a.table.heading.schema q.cond Find a.ask asked in
             λ j. A.Rows (rows_answer q (columns_at name (headings-database ts j)) (filter_is name ts a.table there q.cond b.number b.asked w.got (got_of (Find b.number) b.is) j))
         of_source (Join l r on equals) there = absurd (cc there)
+    answer_by other there asked = absurd (cc there)
 
     answer : verdict p m ts stmt ≡ got_answer stmt (headings ts) w.got
     answer = verdict_is ∙ answer_by stmt access.found access.asked

@@ -52,37 +52,33 @@ module _ (p : Public) (m : ℕ) (stmt : Stmt) (index : Index) (on : IsKeyed p m 
   named name f leaf same = ap (λ (n : List ℕ). with_table n p (shape_script p leaf f)) same ∙ shape_is f leaf
 
   script_by : (s : Stmt) (seen : Seen) → keyed_name s ≡ Some on.name → whole_script p (skeleton s) seen ≡ index_part_of p seen.leaf on.table
-  script_by (Create table columns capacity shape) seen keyed = absurd (cc keyed)
   script_by (Insert table columns values) seen keyed =
       named table (mutation_script p insert_part (behind_change p (skeleton (Insert table columns values)))) seen.leaf (cc keyed)
   script_by (Update table sets cond) seen keyed =
       named table (mutation_script p rewrite_part (behind_change p (skeleton (Update table sets cond)))) seen.leaf (cc keyed)
   script_by (Delete table cond) seen keyed =
       named table (mutation_script p rewrite_part (behind_change p (skeleton (Delete table cond)))) seen.leaf (cc keyed)
-  script_by (DropTable table) seen keyed = absurd (cc keyed)
-  script_by (TotalsStmt q) seen keyed = absurd (cc keyed)
   script_by (RowsStmt q) seen keyed = of_source q.source keyed
     where
       of_source : (source : Source) → one_table source ≡ Some on.name → source_script p seen source ≡ index_part_of p seen.leaf on.table
       of_source (OneTable name) is = named name (flat_script p seen) seen.leaf (cc is)
       of_source (Join a b left equals) is = absurd (cc is)
+  script_by other seen keyed = absurd (cc keyed)
 
   pub script_is : (seen : Seen) → whole_script p (skeleton stmt) seen ≡ index_part_of p seen.leaf on.table
   script_is seen = script_by stmt seen on.keyed
 
   -- ---- what is public of it
   access_by : (s : Stmt) → keyed_name s ≡ Some on.name → is_access p (skeleton s) ≡ true
-  access_by (Create table columns capacity shape) keyed = absurd (cc keyed)
   access_by (Insert table columns values) keyed = let same : table ≡ on.name = cc keyed in ap (has_index p) same ∙ index_is p m stmt index on
   access_by (Update table sets cond) keyed = let same : table ≡ on.name = cc keyed in ap (has_index p) same ∙ index_is p m stmt index on
   access_by (Delete table cond) keyed = let same : table ≡ on.name = cc keyed in ap (has_index p) same ∙ index_is p m stmt index on
-  access_by (DropTable table) keyed = absurd (cc keyed)
-  access_by (TotalsStmt q) keyed = absurd (cc keyed)
   access_by (RowsStmt q) keyed = of_source q.source keyed
     where
       of_source : (source : Source) → one_table source ≡ Some on.name → is_access p (Rows source q.list) ≡ true
       of_source (OneTable name) is = let same : name ≡ on.name = cc is in ap (has_index p) same ∙ index_is p m stmt index on
       of_source (Join a b left equals) is = absurd (cc is)
+  access_by other keyed = absurd (cc keyed)
 
   capacity_is : (name : List ℕ) → name ≡ on.name → height_of (capacity_at name (headings_of p.tables)) ≡ index.height
   capacity_is name same =
@@ -91,17 +87,15 @@ module _ (p : Public) (m : ℕ) (stmt : Stmt) (index : Index) (on : IsKeyed p m 
       ∙ sym (height_is on.table.heading index on.is)
 
   height_by : (s : Stmt) → keyed_name s ≡ Some on.name → height_at p (skeleton s) ≡ index.height
-  height_by (Create table columns capacity shape) keyed = absurd (cc keyed)
   height_by (Insert table columns values) keyed = capacity_is table (cc keyed)
   height_by (Update table sets cond) keyed = capacity_is table (cc keyed)
   height_by (Delete table cond) keyed = capacity_is table (cc keyed)
-  height_by (DropTable table) keyed = absurd (cc keyed)
-  height_by (TotalsStmt q) keyed = absurd (cc keyed)
   height_by (RowsStmt q) keyed = of_source q.source keyed
     where
       of_source : (source : Source) → one_table source ≡ Some on.name → height_at p (Rows source q.list) ≡ index.height
       of_source (OneTable name) is = capacity_is name (cc is)
       of_source (Join a b left equals) is = absurd (cc is)
+  height_by other keyed = absurd (cc keyed)
 
   pub height_at_is : height_at p (skeleton stmt) ≡ index.height
   height_at_is = height_by stmt on.keyed

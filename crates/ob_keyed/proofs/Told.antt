@@ -104,17 +104,12 @@ module _ (d : Draws) (p : Public) (m : ℕ) (ts : Tables) (stmt : Stmt) (t : Sto
 
   -- a row that it found
   fits_by : (s : Stmt) (w : Went Row) → ask_of t.heading s ≡ Some at.ask → went (next_draw d) t at.ask ≡ Some w → selects_rows s ≡ true → All (FitsColumns t.heading.schema) (found w.got)
-  fits_by (Create table columns capacity shape) w asked goes chosen = absurd (cc chosen)
-  fits_by (Insert table columns values) w asked goes chosen = absurd (cc chosen)
-  fits_by (Update table sets cond) w asked goes chosen = absurd (cc chosen)
-  fits_by (Delete table cond) w asked goes chosen = absurd (cc chosen)
-  fits_by (DropTable table) w asked goes chosen = absurd (cc chosen)
-  fits_by (TotalsStmt q) w asked goes chosen = absurd (cc chosen)
   fits_by (RowsStmt q) w asked goes chosen =
       let b = asked_of t.heading.schema q.cond Find at.ask asked in
       let in_place = indexed d p m ts stmt a at.started place at.is in
       found_fits t.heading.capacity (key_at t.heading.schema) (height_of t.heading.capacity) (next_draw d) (index_of t.heading t.held) b.number w t.heading.schema in_place.leaves in_place.stands
       (ap (went (next_draw d) t) (sym b.is) ∙ goes) (held_fit t index old at.index_is lies.lies)
+  fits_by other w asked goes chosen = absurd (cc chosen)
 
   told : (got : Got) → AnswersAsk t left at.ask (next_draw d) got new → ToldKeyed d p m ts stmt t left got new
   told got answers =

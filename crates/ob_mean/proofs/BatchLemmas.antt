@@ -34,13 +34,8 @@ none_is None is = refl
 none_is (Some x) is = absurd (cc is)
 
 flat_insert : (p : Public) (s : Skeleton) → inserts_flat p s ≡ true → IsSome (inserts_into s) × (is_access p s ≡ false)
-flat_insert p (CreateSkeleton table cs n shape) is = absurd (cc is)
 flat_insert p (InsertSkeleton table cs) is = (refl, not-true (is_access p (InsertSkeleton table cs)) is)
-flat_insert p (UpdateSkeleton table cs) is = absurd (cc is)
-flat_insert p (DeleteSkeleton table) is = absurd (cc is)
-flat_insert p (DropSkeleton table) is = absurd (cc is)
-flat_insert p (Rows source cs) is = absurd (cc is)
-flat_insert p (Groups table cs key) is = absurd (cc is)
+flat_insert p other is = absurd (cc is)
 
 -- as many as the settings let one batch have
 abbrev most_of : Public → (m : ℕ) → ℕ
@@ -126,32 +121,17 @@ Inserts stmt = IsSome (inserts_into (skeleton stmt))
 
 -- it looks at no limit
 pub early_like : (late : Bool) (limits given : Limits) (hs : List Heading) (stmt : Stmt) → Inserts stmt → early_refusal late limits hs stmt ≡ early_refusal late given hs stmt
-early_like late limits given hs (Create table columns capacity shape) inserts = absurd (cc inserts)
 early_like late limits given hs (Insert table columns values) inserts = refl
-early_like late limits given hs (Update table sets cond) inserts = absurd (cc inserts)
-early_like late limits given hs (Delete table cond) inserts = absurd (cc inserts)
-early_like late limits given hs (DropTable table) inserts = absurd (cc inserts)
-early_like late limits given hs (RowsStmt q) inserts = absurd (cc inserts)
-early_like late limits given hs (TotalsStmt q) inserts = absurd (cc inserts)
+early_like late limits given hs other inserts = absurd (cc inserts)
 
 module _ (p q : Public) (m n : ℕ) (late : is_late m ≡ is_late n) where
   refusal_like : (ts : Tables) (stmt : Stmt) → Inserts stmt → refusal p m ts stmt ≡ refusal q n ts stmt
-  refusal_like ts (Create table columns capacity shape) inserts = absurd (cc inserts)
   refusal_like ts (Insert table columns values) inserts = ap (λ (b : Bool). option_or (refusal_of b (limits_of p) (database ts) (Insert table columns values)) None) late
-  refusal_like ts (Update table sets cond) inserts = absurd (cc inserts)
-  refusal_like ts (Delete table cond) inserts = absurd (cc inserts)
-  refusal_like ts (DropTable table) inserts = absurd (cc inserts)
-  refusal_like ts (RowsStmt s) inserts = absurd (cc inserts)
-  refusal_like ts (TotalsStmt s) inserts = absurd (cc inserts)
+  refusal_like ts other inserts = absurd (cc inserts)
 
   settled_like : (d : Draws) (ts : Tables) (stmt : Stmt) → Inserts stmt → settled d p ts stmt ≡ settled d q ts stmt
-  settled_like d ts (Create table columns capacity shape) inserts = absurd (cc inserts)
   settled_like d ts (Insert table columns values) inserts = refl
-  settled_like d ts (Update table sets cond) inserts = absurd (cc inserts)
-  settled_like d ts (Delete table cond) inserts = absurd (cc inserts)
-  settled_like d ts (DropTable table) inserts = absurd (cc inserts)
-  settled_like d ts (RowsStmt s) inserts = absurd (cc inserts)
-  settled_like d ts (TotalsStmt s) inserts = absurd (cc inserts)
+  settled_like d ts other inserts = absurd (cc inserts)
 
   pub verdict_like : (ts : Tables) (stmt : Stmt) → Inserts stmt → verdict p m ts stmt ≡ verdict q n ts stmt
   verdict_like ts stmt inserts = ap (λ (r : Option Refusal). answered r (accepted_answer (database ts) stmt)) (refusal_like ts stmt inserts)

@@ -78,24 +78,16 @@ no_access ts stmt flat = of_name (keyed_name stmt)
     of_name (Some name) = of_table name (stored_at name ts) refl
 
 pub no_public_access : (p : Public) (s : Skeleton) → AreFlat (headings_of p.tables) → is_access p s ≡ false
-no_public_access p (CreateSkeleton table cs n shape) flat = refl
 no_public_access p (InsertSkeleton table cs) flat = no_index table (headings_of p.tables) flat
 no_public_access p (UpdateSkeleton table cs) flat = no_index table (headings_of p.tables) flat
 no_public_access p (DeleteSkeleton table) flat = no_index table (headings_of p.tables) flat
-no_public_access p (DropSkeleton table) flat = refl
 no_public_access p (Rows (OneTable name) cs) flat = no_index name (headings_of p.tables) flat
-no_public_access p (Rows (Join a b on equals) cs) flat = refl
-no_public_access p (Groups table cs key) flat = refl
+no_public_access p other flat = refl
 
 -- each SELECT of rows counts them
 pub counts_rows : (p : Public) (stmt : Stmt) → AreFlat (headings_of p.tables) → is_counted p stmt ≡ selects_rows stmt
-counts_rows p (Create table columns capacity shape) flat = refl
-counts_rows p (Insert table columns values) flat = refl
-counts_rows p (Update table sets search) flat = refl
-counts_rows p (Delete table search) flat = refl
-counts_rows p (DropTable table) flat = refl
 counts_rows p (RowsStmt q) flat = ap (λ (b : Bool). not b) (no_public_access p (skeleton (RowsStmt q)) flat)
-counts_rows p (TotalsStmt q) flat = refl
+counts_rows p other flat = refl
 
 -- ---- what is seen and what is left
 unread : (b : Bool) (o : Option Accessed) → o ≡ None → (if b then None else o) ≡ None
@@ -128,12 +120,7 @@ MakesFlat _ = ⊤
 pub makes_flat : (late : Bool) (limits : Limits) (hs : List Heading) (stmt : Stmt) → limits.keep ≡ true → early_refusal late limits hs stmt ≡ None → MakesFlat (skeleton stmt)
 makes_flat late limits hs (Create table columns capacity shape) kept early =
     (within limits hs table columns capacity shape (allowed late limits hs (Create table columns capacity shape) early).limits).flat kept
-makes_flat late limits hs (Insert table columns values) kept early = tt
-makes_flat late limits hs (Update table sets search) kept early = tt
-makes_flat late limits hs (Delete table search) kept early = tt
-makes_flat late limits hs (DropTable table) kept early = tt
-makes_flat late limits hs (RowsStmt q) kept early = tt
-makes_flat late limits hs (TotalsStmt q) kept early = tt
+makes_flat late limits hs other kept early = tt
 
 pub held_flat : (d : Draws) (stash : ℕ) (h : Heading) → h.shape ≡ Flat → new_held d stash h ≡ record { slots = empty_slots h.capacity; leaves = [] }
 held_flat d stash h flat =
@@ -161,10 +148,8 @@ none_drawn p (Groups table cs key) flat made = refl
 
 pub no_draws : (p : Public) (s : Skeleton) (end : End) → AreFlat (headings_of p.tables) → MakesFlat s → draws_taken p s end ≡ 0
 no_draws p s Static flat made = refl
-no_draws p s Whole flat made = none_drawn p s flat made
-no_draws p s AfterCount flat made = none_drawn p s flat made
 no_draws p s Joined flat made = refl
-no_draws p s (Cut n) flat made = none_drawn p s flat made
+no_draws p s other flat made = none_drawn p s flat made
 
 -- ---- the accesses
 pub shape_is : (p : Public) (leaf : Option ℕ) (f : Stored ℕ → List Access) (t : Stored ℕ) → t.heading.shape ≡ Flat → shape_script p leaf f t ≡ f t

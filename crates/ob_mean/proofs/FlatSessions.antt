@@ -100,11 +100,8 @@ public_flat p s now made flat = by_end now.end
     behind (Groups table cs key) made = flat
 
     by_end : (end : End) → AreFlat (headings_of (tables_then p s end))
-    by_end Static = flat
     by_end Whole = behind s made
-    by_end AfterCount = flat
-    by_end Joined = flat
-    by_end (Cut n) = flat
+    by_end other = flat
 
 -- behind a statement of which only what is lawful was seen
 pub next_flat : (p : Public) (m : ℕ) (stmt : Stmt) (x : Seen) → Lawful p m stmt x → p.keep ≡ true → AreFlat (headings_of p.tables) → AreFlat (headings_of (next p (skeleton stmt) x).tables)

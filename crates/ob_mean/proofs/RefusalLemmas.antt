@@ -47,23 +47,16 @@ abbrev names_of : Stmt → List ColumnName
 names_of stmt = named_columns stmt ++ flat_map comparison_columns (compared stmt)
 
 named : (stmt : Stmt) → named_in (parts_of stmt) ≡ names_of stmt
-named (Create table columns capacity shape) = refl
 named (Insert table columns values) = no_more ∙ no_more ∙ no_more ∙ no_more ∙ no_more
 named (Update table sets cond) =
     ap (λ names. names ++ flat_map comparison_columns (where_comparisons cond)) (no_more ∙ no_more ∙ no_more ∙ no_more ∙ map-map unqualified (λ (s : Set). s.column) sets)
-named (Delete table cond) = refl
-named (DropTable table) = refl
 named (RowsStmt s) = ap (λ names. names ++ flat_map comparison_columns (where_comparisons s.cond)) (no_more ∙ no_more)
-named (TotalsStmt s) = refl
+named other = refl
 
 select_lacks : (stmt : Stmt) (hs : List Heading) → select_lacks_in (scope hs stmt) (parts_of stmt) ≡ select_lacks_column hs stmt
-select_lacks (Create table columns capacity shape) hs = refl
-select_lacks (Insert table columns values) hs = refl
-select_lacks (Update table sets cond) hs = refl
-select_lacks (Delete table cond) hs = refl
-select_lacks (DropTable table) hs = refl
 select_lacks (RowsStmt s) hs = λ t. not (apart s.source hs t)
 select_lacks (TotalsStmt s) hs = alone ∙ (λ t. has_stray_column (append-nil (columns_at s.table hs) t) s)
+select_lacks other hs = refl
 
 -- the conditions by the columns of both tables
 pub others_are : (stmt : Stmt) (given : Limits) (hs : List Heading) →

@@ -130,10 +130,6 @@ module _ (a b : Database) (same : SameTables a b) where
       go (Some x) None found = absurd found
       go (Some x) (Some y) found =
           same_insert (new_row x.heading.schema columns values) x y found.0 found.1 ∙ ap (λ (h : Heading). insert_refusal y (new_row h.schema columns values)) found.0
-  late_same s (Update table sets cond) = refl
-  late_same s (Delete table cond) = refl
-  late_same s (DropTable table) = refl
-  late_same s (RowsStmt q) = refl
   late_same s (TotalsStmt q) =
       ap (λ (hs : List Heading). refused hs a) heads
       ∙ ap (λ over. if over then Some TooManyGroups else None)
@@ -142,6 +138,7 @@ module _ (a b : Database) (same : SameTables a b) where
       refused : List Heading → Database → Option Refusal
       refused hs db =
           if overgroups s q.group (columns_at q.table hs) (filter (is_true (where_at q.cond (columns_at q.table hs))) (rows_at q.table db)) then Some TooManyGroups else None
+  late_same s other = refl
 
   early_same : (late : Bool) (limits : Limits) (stmt : Stmt) → early_refusal late limits (headings a) stmt ≡ early_refusal late limits (headings b) stmt
   early_same late limits stmt = ap (λ (hs : List Heading). early_refusal late limits hs stmt) heads
@@ -157,11 +154,8 @@ module _ (a b : Database) (same : SameTables a b) where
       ∙ ap Changed (same-count (is_true (where_at search (columns_at table (headings b)))) (rows_at table a) (rows_at table b) (held_same table))
 
   accepted_same : (stmt : Stmt) → SameAnswer (accepted_answer a stmt) (accepted_answer b stmt)
-  accepted_same (Create table columns capacity shape) = refl
-  accepted_same (Insert table columns values) = refl
   accepted_same (Update table sets search) = changed_same table search
   accepted_same (Delete table search) = changed_same table search
-  accepted_same (DropTable table) = refl
   accepted_same (RowsStmt q) =
       subst (λ (hs : List Heading). Same (shown hs a) (shown (headings b) b)) (sym heads)
       (Same-map (printed (printed_places q (source_columns q.source (headings b)))) _ _ (Same-filter (is_true (where_at q.cond (source_columns q.source (headings b)))) _ _ (source_same q.source)))
@@ -174,6 +168,7 @@ module _ (a b : Database) (same : SameTables a b) where
     where
       shown : List Heading → Database → List (List Shown)
       shown hs db = total_rows q.group (columns_at q.table hs) q.items (filter (is_true (where_at q.cond (columns_at q.table hs))) (rows_at q.table db))
+  accepted_same other = refl
 
   -- ---- the tables afterwards
   next_same : (stmt : Stmt) → SameTables (accepted_next a stmt) (accepted_next b stmt)

@@ -34,9 +34,7 @@ acted_later (x ∷ list) m n le none = grind (arith, acted_later list m n le)
 
 act_of_fail : (rests : RegionRests) (a : Act) (s : Stands) → is_fail a ≡ true → after_act rests a s ≡ s
 act_of_fail rests Fail s is = refl
-act_of_fail rests (Flip region place byte) s is = absurd (cc is)
-act_of_fail rests (Copy from to) s is = absurd (cc is)
-act_of_fail rests (Older region place) s is = absurd (cc is)
+act_of_fail rests other s is = absurd (cc is)
 
 -- where no act came, none comes now
 pub none_due : (rests : RegionRests) (list : List Meddle) (number : ℕ) (s : Stands) → 1 ≤ number → has_acted list number ≡ false → after_acts rests list number s ≡ s

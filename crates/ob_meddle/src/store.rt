@@ -16,7 +16,7 @@ use crate::meddle::Meddle;
 use crate::region::Region;
 use crate::regions::{add, is_kept, keep_usable, read, retire, write};
 use ob_base::{Access, Failed, Items, NoMemory, StoreErr};
-use ob_store::{BlockStore, Lasting, Log, Saving};
+use ob_store::{BlockStore, GivenUp, Lasting, Log, Saving};
 use std::alloc::Global;
 use std::collections::{BTreeMap, BTreeSet};
 
@@ -34,6 +34,7 @@ pub struct MeddledStore {
     faults: u64,
     slips: u64,
     caught: Option<Caught>,
+    given_up: Option<GivenUp>,
     ghost fresh: { IsFresh (asked_of log) usable },
     ghost few: { faults + slips ≤ length (asked_of log) },
     ghost counted: { reopened ≡ false
@@ -66,6 +67,7 @@ impl MeddledStore {
             faults: 0,
             slips: 0,
             caught: None,
+            given_up: None,
         }
     }
 
@@ -96,6 +98,7 @@ impl MeddledStore {
             faults: 0,
             slips: 0,
             caught: None,
+            given_up: None,
         }
     }
 
@@ -110,6 +113,7 @@ impl MeddledStore {
         ensures usable { self.new.usable ≡ self.old.usable }
         ensures reopened { self.new.reopened ≡ self.old.reopened }
         ensures caught { self.new.caught ≡ self.old.caught }
+        ensures given_up { self.new.given_up ≡ self.old.given_up }
         ensures rests { (q : ℕ) → rests_of self.new.regions q ≡ rests_of self.old.regions q }
         ensures stands { stands_of self.new.regions
             ≡ after_acts (rests_of self.old.regions) self.old.list
@@ -145,6 +149,8 @@ impl BlockStore for MeddledStore {
 
     ghost state = { λ m. state_of m };
 
+    ghost given_up = { λ m. m.given_up };
+
     ghost keeps_live = { λ m q shape told is.
         keeps_live (contains nat_cmp m.usable q) (rests_of m.regions q) shape is (state_of m) q
         refl (λ x. refl) };
@@ -170,6 +176,7 @@ impl BlockStore for MeddledStore {
     fn room(&mut self, n: u64) -> Result<(), NoMemory>
         ensures rests { ChangesNothing (state_of self.old) (state_of self.new) }
         ensures spare { OnOk result (n ≤ (state_of self.new).spare) }
+        ensures same { self.new.given_up ≡ self.old.given_up }
         ensures list { list_of self.new ≡ list_of self.old }
         ensures stays { standing self.new ≡ standing self.old }
         ensures held { held self.new ≡ held self.old }
@@ -189,6 +196,7 @@ impl BlockStore for MeddledStore {
         ensures ok { OnOk result (Makes region blocks len (state_of self.old) (state_of self.new)) }
         ensures err { OnErr result (Keeps (state_of self.old) (state_of self.new)) }
         ensures lie { (state_of self.new).lie ≡ (state_of self.old).lie }
+        ensures same { self.new.given_up ≡ self.old.given_up }
         ensures made { Made region blocks len result self.old self.new }
     {
         self.begin(Access::Make {
@@ -216,6 +224,7 @@ impl BlockStore for MeddledStore {
             (state_of self.new)) }
         ensures gave { OnOk result ((state_of self.new).gave ≡ buf.new) }
         ensures err { OnErr result ((state_of self.new).lie ≡ (state_of self.old).lie) }
+        ensures same { self.new.given_up ≡ self.old.given_up }
         ensures stands { Gave region place buf.new result self.old self.new }
     {
         let count = self.log.count();
@@ -237,6 +246,7 @@ impl BlockStore for MeddledStore {
             (state_of self.new)) }
         ensures err { OnErr result (Keeps (state_of self.old) (state_of self.new)) }
         ensures lie { (state_of self.new).lie ≡ (state_of self.old).lie }
+        ensures same { self.new.given_up ≡ self.old.given_up }
         ensures wrote { Wrote region place block.now result self.old self.new }
     {
         self.begin(Access::Write { region, place })?;
@@ -256,6 +266,7 @@ impl BlockStore for MeddledStore {
         ensures given_up { (state_of self.new).live region ≡ None
             → IsGivenUp region (state_of self.new) }
         ensures lie { (state_of self.new).lie ≡ (state_of self.old).lie }
+        ensures same { self.new.given_up ≡ self.old.given_up }
         ensures retired { Retired region result self.old self.new }
     {
         self.begin(Access::Discard { region })?;
@@ -265,10 +276,25 @@ impl BlockStore for MeddledStore {
         Ok(())
     }
 
+    fn give_up(&mut self, from: u64)
+        ensures same { state_of self.new ≡ state_of self.old }
+        ensures given_up { self.new.given_up
+            ≡ Some (record { from = from; asked = length (state_of self.old).asked }) }
+        ensures list { list_of self.new ≡ list_of self.old }
+        ensures stays { standing self.new ≡ standing self.old }
+        ensures held { held self.new ≡ held self.old }
+    {
+        self.given_up = Some(GivenUp {
+            from,
+            asked: self.log.count(),
+        });
+    }
+
     fn let_go(&mut self)
         ensures is { state_of self.new
             ≡ without_list (state_of self.new).spare (state_of self.old) }
         ensures spare { (state_of self.old).spare ≤ (state_of self.new).spare }
+        ensures same { self.new.given_up ≡ self.old.given_up }
         ensures list { list_of self.new ≡ list_of self.old }
         ensures stays { standing self.new ≡ standing self.old }
         ensures held { held self.new ≡ held self.old }
@@ -306,6 +332,7 @@ impl Lasting for MeddledStore {
         ensures ok { OnOk result (Resumes region blocks len (state_of self.old)
             (state_of self.new)) }
         ensures err { OnErr result (Keeps (state_of self.old) (state_of self.new)) }
+        ensures same { self.new.given_up ≡ self.old.given_up }
         ensures resumed { Resumed region blocks len result self.old self.new }
     {
         self.reopened = true;
@@ -334,6 +361,7 @@ impl Saving for MeddledStore {
     fn sync(&mut self) -> Result<(), Failed>
         ensures syncs { Syncs (state_of self.old) (state_of self.new) }
         ensures cause { CountsFault result (state_of self.old) (state_of self.new) }
+        ensures same { self.new.given_up ≡ self.old.given_up }
         ensures list { list_of self.new ≡ list_of self.old }
         ensures stays { standing self.new ≡ standing self.old }
         ensures held { held self.new ≡ held self.old }
@@ -347,7 +375,9 @@ impl Saving for MeddledStore {
         ensures cause { CountsFault result (state_of self.old) (state_of self.new) }
         ensures bare { IfOk result (λ bare. bare ≡ true → IsTrue (state_of self.old).tells
             → IsBare (state_of self.old)) }
-        ensures empty { IfOk result (λ bare. IsBare (state_of self.old) → bare ≡ true) }
+        ensures empty { IfOk result (λ bare. IsTrue (state_of self.old).tells
+            → IsBare (state_of self.old) → bare ≡ true) }
+        ensures same { self.new.given_up ≡ self.old.given_up }
         ensures list { list_of self.new ≡ list_of self.old }
         ensures stays { standing self.new ≡ standing self.old }
         ensures held { held self.new ≡ held self.old }
@@ -359,6 +389,7 @@ impl Saving for MeddledStore {
     // What it takes out isn't there to be copied, either: no later change finds it.
     fn sweep(&mut self)
         ensures sweeps { Sweeps (state_of self.old) (state_of self.new) }
+        ensures same { self.new.given_up ≡ self.old.given_up }
         ensures swept { Swept self.old self.new }
     {
         keep_usable(&mut self.regions, &self.usable);

@@ -55,17 +55,13 @@ cell-with_cells columns place (s ∷ sets) row fits =
 
 -- an operation keeps the key of a row
 pub keeps_key : (index : Index) (op : Op) → FitsOp index.schema index.key op → KeepsKey (key_of index) (op_in index.capacity op)
-keeps_key index (Get key) fits = tt
-keeps_key index (Insert key cells) fits = tt
 keeps_key index (Change key sets) fits = λ row. ap (cell_number index.capacity) (cell-with_cells index.schema index.key sets.now row fits)
-keeps_key index (Remove key) fits = tt
+keeps_key index other fits = tt
 
 -- and has the key that it says
 pub tree_key_is : (index : Index) (op : Op) → FitsOp index.schema index.key op → tree_key index op ≡ key_number index.capacity (key_of_op op)
-tree_key_is index (Get key) fits = refl
 tree_key_is index (Insert key cells) fits = ap (cell_number index.capacity) fits.1
-tree_key_is index (Change key sets) fits = refl
-tree_key_is index (Remove key) fits = refl
+tree_key_is index other fits = refl
 
 -- the row of an entry of the buffer
 pub record RowAt (index : Index) (slots : Slots) (i key : ℕ) : Type 0 where

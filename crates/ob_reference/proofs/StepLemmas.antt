@@ -13,9 +13,4 @@ pub sizes : (late : Bool) (limits : Limits) (hs : List Heading) (stmt : Stmt) â†
 sizes late limits hs (Create table columns capacity shape) h =
     let sized = within limits hs table columns capacity shape (allowed late limits hs (Create table columns capacity shape) h).limits in
     (omega (arith, sized.few), sized.sizes)
-sizes late limits hs (Insert table columns values) h = tt
-sizes late limits hs (Update table sets c) h = tt
-sizes late limits hs (Delete table c) h = tt
-sizes late limits hs (DropTable table) h = tt
-sizes late limits hs (SelectRows s) h = tt
-sizes late limits hs (SelectTotals s) h = tt
+sizes late limits hs other h = tt

@@ -13,6 +13,7 @@ pub mod TableLemmas
 pub mod WriteLemmas
 pub mod CloseLemmas
 pub mod ListLemmas
+pub mod AlikeKeys
 pub mod ReadsRekeyed
 pub mod ByNameAlike
 pub mod OutlastLemmas

@@ -52,3 +52,9 @@ module _ (keys : KeySet) (old new : ℕ → Option KeptRegion) where
         held = tables_last closing.pack rests.listed tables (λ i t is. same t.table.region (inr (i, t, is, refl))) rests.held;
         in_place = rests.in_place;
       }
+
+  -- it lists the same tables
+  pub listed_last : (closing : Closing) (tables : Tables) (rests : Rests keys closing old tables) (same : (q : ℕ) → IsNeeded closing rests.listed q → new q ≡ old q)
+      → (rests_last closing tables rests same).listed ≡ rests.listed
+  unfolding rests_last
+  listed_last closing tables rests same = refl

@@ -6,7 +6,7 @@ use Rattle.ob_base.specs.Accesses.{region_of}
 use Rattle.ob_base.specs.declared.access.Access.{Access}
 use Rattle.ob_base.specs.declared.access.Access.TheVariants.{Read}
 use Rattle.ob_store.specs.State.{KeptRegion, Lie}
-use Rattle.ob_seal.specs.KeySet.{KeySet, pair_of}
+use Rattle.ob_seal.specs.KeySet.{AreAlike, KeySet}
 use Rattle.ob_seal.proofs.Agree.{sealed_agree, tag_agree}
 use Rattle.ob_vault.specs.Calls.{Seals, Unfit, one}
 use Rattle.ob_vault.specs.Numbers.{last_number}
@@ -20,13 +20,14 @@ use Rattle.ob_reopen.specs.declared.fault.OpenErr.{OpenErr}
 use Rattle.ob_reopen.specs.declared.fault.OpenErr.TheVariants.{Failed, Tampered, NoMemory}
 use Rattle.ob_reopen.specs.declared.listed.Listed.{Listed}
 use Rattle.ob_reopen.specs.Closings.{KeepsRows}
+use Rattle.ob_reopen.proofs.AlikeKeys.{alike_back}
 use Rattle.ob_reopen.specs.Openings.{AwaitsTables, ClosingTampered, IsNoRow, IsNumbered, OpenCause, ReadsClosing}
 
 asked_at : (q : ℕ) (before : List Access) (a : Access) (rest : List Access) → Unasked q (before ++ a ∷ rest) → region_of a ≢ q
 asked_at q [] a rest off = off.0
 asked_at q (x ∷ before) a rest off = asked_at q before a rest off.1
 
-pub rows_agree : (k l : KeySet) (closing : Closing) (rows : List (List ℕ)) (kept : ℕ → Option KeptRegion) → pair_of k closing.region ≡ pair_of l closing.region → KeepsRows k closing rows kept → KeepsRows l closing rows kept
+pub rows_agree : (k l : KeySet) (closing : Closing) (rows : List (List ℕ)) (kept : ℕ → Option KeptRegion) → AreAlike k l closing.region → KeepsRows k closing rows kept → KeepsRows l closing rows kept
 rows_agree k l closing rows kept same keeps = record {
   region = keeps.region;
   is = keeps.is;
@@ -35,19 +36,19 @@ rows_agree k l closing rows kept same keeps = record {
   whole = keeps.whole;
   count = keeps.count;
   sizes = keeps.sizes;
-  holds = λ p below. keeps.holds p below ∙ ap Some (sealed_agree k l (at_of closing.region p (closing.number + p)) same (slice_index_or rows p []));
+  holds = λ p below. keeps.holds p below ∙ ap Some (sealed_agree k l (at_of closing.region p (closing.number + p)) (same.each _ refl) (slice_index_or rows p []));
 }
 
 module _ (closing : Closing) (keys : KeySet) (old new : World)
-    (same : pair_of old.vault.keys closing.region ≡ pair_of keys closing.region)
+    (same : AreAlike old.vault.keys keys closing.region)
     (stays : Stays (one closing.region) old new)
     (only : (q : ℕ) → q ≢ closing.region → Unasked q new.store.asked)
     (honest : old.store.lie ≡ None) (empty : (q : ℕ) → old.store.live q ≡ None) where
-  same_new : pair_of new.vault.keys closing.region ≡ pair_of keys closing.region
-  same_new = ap (λ (k : KeySet). pair_of k closing.region) stays.keys ∙ same
+  same_new : AreAlike new.vault.keys keys closing.region
+  same_new = subst (λ (k : KeySet). AreAlike k keys closing.region) (sym stays.keys) same
 
-  same_at : (q : ℕ) → q ≡ closing.region → pair_of new.vault.keys q ≡ pair_of keys q
-  same_at q is = subst (λ (r : ℕ). pair_of new.vault.keys r ≡ pair_of keys r) (sym is) same_new
+  same_at : (q : ℕ) → q ≡ closing.region → AreAlike new.vault.keys keys q
+  same_at q is = subst (AreAlike new.vault.keys keys) (sym is) same_new
 
   stays_rekeyed : Stays (one closing.region) (rekeyed keys old) (rekeyed keys new)
   stays_rekeyed = record {
@@ -56,6 +57,7 @@ module _ (closing : Closing) (keys : KeySet) (old new : World)
     writes = stays.writes;
     region = stays.region;
     given = stays.given;
+    linked = stays.linked;
     next = stays.next;
     log = stays.log;
     faults = stays.faults;
@@ -105,13 +107,13 @@ module _ (closing : Closing) (keys : KeySet) (old new : World)
 
   unfit_rekeyed : (p : ℕ) → Unfit closing.region p new → Unfit closing.region p (rekeyed keys new)
   unfit_rekeyed p unfit = record {
-    differs = λ fits. unfit.differs (fits ∙ sym (tag_agree new.vault.keys keys (at_of closing.region p (last_number new closing.region p)) same_new (take (length new.store.gave - 32) new.store.gave)));
+    differs = λ fits. unfit.differs (fits ∙ sym (tag_agree new.vault.keys keys (at_of closing.region p (last_number new closing.region p)) (same_new.each _ refl) (take (length new.store.gave - 32) new.store.gave)));
   }
 
   no_row : (p : ℕ) → IsNoRow closing p new → IsNoRow closing p (rekeyed keys new)
   no_row p is = record {
     bytes = is.bytes;
-    opened = record { gave = is.opened.gave ∙ sealed_agree new.vault.keys keys (at_of closing.region p (last_number new closing.region p)) same_new is.bytes };
+    opened = record { gave = is.opened.gave ∙ sealed_agree new.vault.keys keys (at_of closing.region p (last_number new closing.region p)) (same_new.each _ refl) is.bytes };
     before = is.before;
     listed = is.listed;
     count = is.count;
@@ -146,7 +148,7 @@ module _ (closing : Closing) (keys : KeySet) (old new : World)
     is = is.is;
     all = λ x block last.
         let here = is.all x block last in
-        record { rows = here.rows; is = here.is ∙ sym (sealed_agree old.vault.keys keys (at_of closing.region x (closing.number + x)) same here.rows); fine = here.fine };
+        record { rows = here.rows; is = here.is ∙ sym (sealed_agree old.vault.keys keys (at_of closing.region x (closing.number + x)) (same.each _ refl) here.rows); fine = here.fine };
   }
 
   all_old : (good : ℕ → List ℕ → Bool) (scope : Scope) → AllSealed good scope old
@@ -172,7 +174,7 @@ module _ (closing : Closing) (keys : KeySet) (old new : World)
     numbered = numbered_rekeyed reads.numbered;
     seals = λ good kept. seals_rekeyed good (reads.seals good (kept_back good kept));
     told = λ is rows keeps.
-        reads.told (record { tells = is.tells; nolie = is.nolie }) rows (rows_agree keys old.vault.keys closing rows old.store.kept (sym same) keeps);
+        reads.told (record { tells = is.tells; nolie = is.nolie }) rows (rows_agree keys old.vault.keys closing rows old.store.kept (alike_back _ _ _ same) keeps);
   }
 
   refused_rekeyed : (e : OpenErr) → ReadsClosing closing (Err e) old new → ReadsClosing closing (Err e) (rekeyed keys old) (rekeyed keys new)
@@ -194,10 +196,10 @@ module _ (closing : Closing) (keys : KeySet) (old new : World)
     numbered = elim reads.numbered [ inl is ↦ inl (numbered_rekeyed is) | inr none ↦ inr none ];
     seals = λ good kept. seals_rekeyed good (reads.seals good (kept_back good kept));
     told = λ is rows keeps.
-        reads.told (record { tells = is.tells; nolie = is.nolie }) rows (rows_agree keys old.vault.keys closing rows old.store.kept (sym same) keeps);
+        reads.told (record { tells = is.tells; nolie = is.nolie }) rows (rows_agree keys old.vault.keys closing rows old.store.kept (alike_back _ _ _ same) keeps);
   }
 
-pub reads_rekeyed : (closing : Closing) (keys : KeySet) (old new : World) (result : Result (List Listed) OpenErr) → pair_of old.vault.keys closing.region ≡ pair_of keys closing.region
+pub reads_rekeyed : (closing : Closing) (keys : KeySet) (old new : World) (result : Result (List Listed) OpenErr) → AreAlike old.vault.keys keys closing.region
     → ((q : ℕ) → q ≢ closing.region → Unasked q new.store.asked) → old.store.lie ≡ None → ((q : ℕ) → old.store.live q ≡ None)
     → ReadsClosing closing result old new → ReadsClosing closing result (rekeyed keys old) (rekeyed keys new)
 reads_rekeyed closing keys old new (Ok listed) same only honest empty reads = read_rekeyed closing keys old new same reads.opens.ok.stays only honest empty listed reads

@@ -2,7 +2,7 @@
 use Rattle.std.proofs.Common.{◌≡◌, inl, inr, ℕ, zero, suc, List, [], ◌∷◌, Option, Some, None, map, refl, sym, ap}
 use Rattle.std.specs.Prelude.{slice_get}
 use Rattle.ob_mean.specs.Verdict.{Tables}
-use Rattle.ob_seal.specs.KeySet.{KeySet, pair_in, pair_of}
+use Rattle.ob_seal.specs.KeySet.{AreAlike, KeySet, pair_in}
 use Rattle.ob_seal.specs.Sealed.{AreBefore, AreSaltsOf, IsEarlier, keys_of, keys_salted, pair_by}
 use Rattle.ob_seal.specs.declared.Salted.{Salted}
 use Rattle.ob_seal.specs.declared.pairs.Pair.{Pair}
@@ -10,8 +10,9 @@ use Rattle.ob_seal.proofs.Salts.{known_pair, own_pair, plain_of_secret, salted_o
 use Rattle.ob_store.specs.State.{KeptRegion}
 use Rattle.ob_reopen.specs.declared.closing.Closing.{Closing}
 use Rattle.ob_reopen.specs.declared.listed.Listed.{Listed}
-use Rattle.ob_reopen.specs.Resting.{AreKept, Rests}
+use Rattle.ob_reopen.specs.Resting.{AreKept, IsNeeded, Rests}
 use Rattle.ob_reopen.specs.Saved.{RestsBy, reopening_keys, salted_of, salted_regions}
+use Rattle.ob_reopen.proofs.AlikeKeys.{ones_alike}
 use Rattle.ob_reopen.proofs.RestsAgree.{rests_agree}
 
 -- the salts that are listed are those of the keys
@@ -34,9 +35,12 @@ rests_under secret salt closed closing kept tables by =
     let listed = by.rests.listed in
     let regions = salted_regions closed closing listed in
     let are : AreSaltsOf by.keys regions = (by.own, salts_kept by.keys closing.pack listed tables kept by.rests.held) in
+    let keys = reopening_keys secret salt closed closing listed in
+    let alike : (q : ℕ) → IsNeeded closing listed q → IsEarlier q regions → AreAlike by.keys keys q =
+    λ q needed is. ones_alike by.keys keys q (by.ones q needed) tt (sym (known_pair secret salt by.keys regions q by.of are is)) in
     rests_agree by.keys (reopening_keys secret salt closed closing listed) kept closing tables by.rests
-    (sym (known_pair secret salt by.keys regions closing.region by.of are (inl refl)))
-    (λ i t is. sym (known_pair secret salt by.keys regions t.table.region by.of are (inr (is_salted listed i t is))))
+    (alike closing.region (inl refl) (inl refl))
+    (λ i t is. alike t.table.region (inr (i, t, is, refl)) (inr (is_salted listed i t is)))
 
 pub rests_plain : (secret : List ℕ) (closing : Closing) (kept : ℕ → Option KeptRegion) (tables : Tables) → Rests (keys_of secret) closing kept tables → RestsBy secret None closing kept tables
 unfolding pair_in
@@ -45,6 +49,7 @@ rests_plain secret closing kept tables rests = record {
   of = plain_of_secret secret;
   own = refl;
   rests = rests;
+  ones = λ q needed. tt;
 }
 
 pub rests_salted : (secret salt : List ℕ) (earlier : List Salted) (closing : Closing) (kept : ℕ → Option KeptRegion) (tables : Tables) → AreBefore closing.region earlier
@@ -54,4 +59,5 @@ rests_salted secret salt earlier closing kept tables before rests = record {
   of = salted_of_secret secret salt earlier;
   own = ap (λ (p : Pair). p.salt) (sym (own_pair secret salt earlier closing.region before));
   rests = rests;
+  ones = λ q needed. tt;
 }

@@ -2,8 +2,8 @@
 use Rattle.std.specs.Prelude.{◌≡◌, ◌||◌, ◌^◌, ℕ, Bool, List, nat_le}
 use Rattle.ob_base.specs.Counts.{Rises}
 use Rattle.ob_base.specs.declared.access.Access.{Access}
-use Rattle.ob_base.specs.declared.mark.Mark.{Mark}
-use Rattle.ob_base.specs.declared.mark.Mark.TheVariants.{InUse}
+use Rattle.ob_reopen.specs.declared.mark.Mark.{Mark}
+use Rattle.ob_reopen.specs.declared.mark.Mark.TheVariants.{InUse}
 use Rattle.ob_store.specs.Runs.{Began, Did}
 use Rattle.ob_store.specs.State.{StoreState}
 use Rattle.ob_reopen.specs.declared.closing.Closing.{Closing}

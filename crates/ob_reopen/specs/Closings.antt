@@ -2,8 +2,8 @@
 use Rattle.std.specs.Prelude.{◌≡◌, ◌<◌, ◌+◌, ◌*◌, ℕ, false, List, [], ◌++◌, flat_map, Option, Some, length, slice_index_or}
 use Rattle.ob_base.specs.Accesses.{make_at, read_at, write_at}
 use Rattle.ob_base.specs.declared.access.Access.{Access}
-use Rattle.ob_base.specs.declared.mark.Mark.{Mark}
-use Rattle.ob_base.specs.declared.mark.Mark.TheVariants.{Closed, Saved}
+use Rattle.ob_reopen.specs.declared.mark.Mark.{Mark}
+use Rattle.ob_reopen.specs.declared.mark.Mark.TheVariants.{Closed, Saved}
 use Rattle.ob_base.specs.Lists.{each}
 use Rattle.ob_base.specs.Schemas.{width}
 use Rattle.ob_seal.specs.KeySet.{KeySet}
@@ -22,9 +22,9 @@ use Rattle.ob_reopen.specs.Spelling.{catalogue_rows}
 abbrev pub mark_of : Closing → Mark
 mark_of c = Closed c.region c.blocks c.number c.pack
 
--- and one of a run that saves its tables, which has this salt
-abbrev pub saved_mark : Closing → (salt : List ℕ) → Mark
-saved_mark c salt = Saved c.region c.blocks c.number c.pack salt
+-- and one of a run that saves its tables, which has this salt, with its check value
+abbrev pub saved_mark : Closing → (salt check : List ℕ) → Mark
+saved_mark c salt check = Saved c.region c.blocks c.number c.pack salt check
 
 -- a region of so many rows of a closing, its own, and that of a table
 abbrev pub region_of : (blocks : ℕ) → Region

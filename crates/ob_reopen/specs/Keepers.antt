@@ -2,8 +2,8 @@
 use Rattle.std.specs.Prelude.{◌≡◌, ◌⊎◌, ◌↔◌, ◌==◌, ◌≤◌, ◌<◌, ◌+◌, ◌-◌, ◌^◌, ℕ, min, List, [], Option, Some, None, Vec, Result, Ok, Err, IsErr, IsTrue, IfOk, OnOk, OnErr, ⊤, length, slice_index}
 use Rattle.std.specs.List.{list_any}
 use Rattle.ob_base.specs.declared.fault.Failed.{Failed}
-use Rattle.ob_base.specs.declared.mark.Mark.{Mark}
-use Rattle.ob_base.specs.declared.mark.Mark.TheVariants.{Fresh, InUse, Closed, Begun, Saved}
+use Rattle.ob_reopen.specs.declared.mark.Mark.{Mark}
+use Rattle.ob_reopen.specs.declared.mark.Mark.TheVariants.{Fresh, InUse, Closed, Begun, Saved}
 use Rattle.ob_base.specs.Counts.{Rises}
 
 pub record KeeperState : Type 0 where
@@ -23,7 +23,7 @@ pub record AreMarked (region blocks number pack : ℕ) : Type 0 where
   pub pack_least : 1 ≤ pack
   pub pack_most : pack ≤ 16
 
--- the bytes of a salt that a mark may name
+-- the bytes of a salt, or of a check value, that a mark may name
 pub record AreSaltBytes (salt : List ℕ) : Type 0 where
   pub long : length salt ≡ 16
   pub each : (i : ℕ) → slice_index salt i < 256
@@ -34,8 +34,8 @@ IsMark Fresh = ⊤
 IsMark InUse = ⊤
 IsMark (Closed region blocks number pack) = AreMarked region blocks number pack
 IsMark Begun = ⊤
-IsMark (Saved region blocks number pack salt) =
-    AreMarked region blocks number pack × AreSaltBytes salt
+IsMark (Saved region blocks number pack salt check) =
+    AreMarked region blocks number pack × AreSaltBytes salt × AreSaltBytes check
 
 -- `Failed` comes only where the count rose, and any other answer leaves it
 abbrev pub CountsFault : {T : Type 0} → Result T Failed → KeeperState → KeeperState → Type 0

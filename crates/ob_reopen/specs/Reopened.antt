@@ -1,5 +1,5 @@
 -- What a run begins with that goes on from a closing, and why it doesn't.
-use Rattle.std.specs.Prelude.{◌≡◌, ◌⊎◌, ◌&&◌, ◌==◌, ◌<◌, ◌+◌, ◌-◌, ℕ, List, [], ◌∷◌, ◌++◌, map, Some, None, ltb, if◌then◌else◌}
+use Rattle.std.specs.Prelude.{◌≡◌, ◌⊎◌, ◌&&◌, ◌==◌, ◌<◌, ◌+◌, ◌-◌, ℕ, List, [], ◌∷◌, ◌++◌, map, Some, None, ltb, false, if◌then◌else◌}
 use Rattle.ob_base.specs.Counts.{Rises}
 use Rattle.ob_base.specs.declared.access.Access.{Access}
 use Rattle.ob_base.specs.declared.access.Access.TheVariants.{Read}
@@ -49,6 +49,7 @@ opened_start closing listed = record {
   writes = closing.number + closing.blocks - 1;
   region = closing.region;
   given = number_given closing listed;
+  linked = λ q. false;
 }
 
 -- what is asked: the closing is opened and read, and then each table that it lists is opened

@@ -1,6 +1,7 @@
 ghost use Rattle.ob_reopen.specs.Keepers.{KeeperState, DrawsSalt, IsMark, GivesMark, SetsMark};
 
-use ob_base::{Failed, Mark};
+use crate::mark::Mark;
+use ob_base::Failed;
 
 /// What keeps a mark where nobody else can change it, from a run to the next: the trusted counter.
 ///

@@ -3,7 +3,7 @@ ghost use Rattle.std.specs.Prelude.{◌≡◌, ◌≢◌, ℕ, List, None, Optio
 ghost use Rattle.ob_base.specs.declared.schema.Table.{Table};
 ghost use Rattle.ob_base.specs.Stored.{AreApart, headings};
 ghost use Rattle.ob_mean.specs.Verdict.{Tables};
-ghost use Rattle.ob_seal.specs.KeySet.{KeySet, pair_of};
+ghost use Rattle.ob_seal.specs.KeySet.{AreAlike as AreAlikeKeys, KeySet};
 ghost use Rattle.ob_seal.specs.Sealed.{AreBefore, keys_of, keys_salted};
 ghost use Rattle.ob_seal.specs.declared.Salted.{Salted};
 ghost use Rattle.ob_store.specs.State.{KeptRegion};
@@ -34,7 +34,7 @@ pub fn lists_are_catalogues()
 pub fn closings_keep_keys()
     ensures { (closing : Closing) (keys : KeySet) (old new : World)
         (result : Result (List Listed) OpenErr)
-        → pair_of old.vault.keys closing.region ≡ pair_of keys closing.region
+        → AreAlikeKeys old.vault.keys keys closing.region
         → ((q : ℕ) → q ≢ closing.region → Unasked q new.store.asked)
         → old.store.lie ≡ None → ((q : ℕ) → old.store.live q ≡ None)
         → ReadsClosing closing result old new
@@ -59,9 +59,9 @@ pub fn rests_outlast()
 pub fn tables_keep_keys()
     ensures { (k l : KeySet) (kept : ℕ → Option KeptRegion) (closing : Closing) (tables : Tables)
         (rests : Rests k closing kept tables)
-        → pair_of k closing.region ≡ pair_of l closing.region
+        → AreAlikeKeys k l closing.region
         → ((i : ℕ) (t : Listed) → slice_get rests.listed i ≡ Some t
-        → pair_of k t.table.region ≡ pair_of l t.table.region) → Rests l closing kept tables }
+        → AreAlikeKeys k l t.table.region) → Rests l closing kept tables }
 {}
 
 /// What rests under keys of a secret rests under those of each run of the secret that goes on from it, whatever its

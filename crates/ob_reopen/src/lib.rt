@@ -9,6 +9,7 @@ mod keeper;
 mod laws;
 mod limits;
 mod listed;
+mod mark;
 mod memory;
 mod parsing;
 mod reading;
@@ -26,6 +27,7 @@ pub use laws::{
     tables_rest_by_salts,
 };
 pub use listed::Listed;
+pub use mark::Mark;
 pub use memory::MemKeeper;
 pub use reading::read_closing;
 pub use salts::salted_regions;

@@ -2,7 +2,8 @@ ghost use Rattle.std.specs.Prelude.{◌≡◌, ◌≤◌, [], OnErr};
 ghost use Rattle.ob_reopen.specs.Keepers.{DrawsSalt, IsMark, GivesMark, SetsMark, CountsFault, Calls, told_by};
 
 use crate::keeper::{Keeper, Salts};
-use ob_base::{Failed, Mark};
+use crate::mark::Mark;
+use ob_base::Failed;
 use std::marker::Model;
 
 /// A keeper in memory, some of whose calls fail. It tells what it holds.

@@ -58,13 +58,9 @@ none_saved true c is = is
 none_saved false c is = refl
 
 all_change : (p : Public) (s : Skeleton) → ChangesFlat p s → changes_tables s ≡ true
-all_change p (Create table cs n shape) changes = refl
-all_change p (Insert table cs) changes = refl
-all_change p (Update table cs) changes = refl
-all_change p (Delete table) changes = refl
-all_change p (DropTable table) changes = refl
 all_change p (Rows source cs) changes = absurd changes
 all_change p (Groups table cs key) changes = absurd changes
+all_change p other changes = refl
 
 both_true : (b c : Bool) → b ≡ true → c ≡ true → (b && c) ≡ true
 both_true true c first second = second
@@ -81,11 +77,8 @@ module _ (p : Public) (s : Skeleton) (seen : Seen) (unsaved : p.save ≡ false) 
   run_is = ap (until_end seen.end) whole_is
 
   closing_stays : (end : End) → closing_then p s end ≡ p.closing
-  closing_stays Static = refl
   closing_stays Whole = ap (λ (b : Bool). if b then Some (closing_behind p s) else p.closing) (none_saved (changes_tables s) p.save unsaved)
-  closing_stays AfterCount = refl
-  closing_stays Joined = refl
-  closing_stays (Cut n) = refl
+  closing_stays other = refl
 
   pub next_is : run_next p s seen ≡ next p s seen
   next_is = λ i. record p { tables = tables_then p s seen.end; next_region = p.next_region + makes (run_is i); closing = sym (closing_stays seen.end) i }

@@ -307,12 +307,7 @@ module _ (p : Public) (seen : Seen) (no_second : seen.then ≡ None) where
   steady_select (Rows (OneTable name) cs) one = steady_until seen.end (λ g. with_table name (numbered g) (table_script (numbered g) seen)) (steady_table (stored_at name (stored_regions p.tables)))
   steady_select (Groups table cs key) one =
       steady_until seen.end (λ g. with_table table (numbered g) (λ t. count_part t.held (blocks_of (numbered g) (extent_of t)))) (steady_groups (stored_at table (stored_regions p.tables)))
-  steady_select (Rows (Join a b on equals) cs) one = absurd one
-  steady_select (Create table cs n shape) one = absurd one
-  steady_select (Insert table cs) one = absurd one
-  steady_select (Update table cs) one = absurd one
-  steady_select (Delete table) one = absurd one
-  steady_select (DropTable table) one = absurd one
+  steady_select other one = absurd one
 
 -- a SELECT without a join, whatever is seen of it but for a second plan
 pub steady_of : (p : Public) (x : Served) → MayFly x → IsSteady p x

@@ -3,11 +3,11 @@ use Rattle.std.proofs.Common.{◌≡◌, ℕ, List, ◌++◌, ap}
 use Rattle.ob_hmac.specs.Hmac.{hmac}
 use Rattle.ob_seal.specs.declared.At.{At}
 use Rattle.ob_seal.specs.declared.pairs.Pair.{Pair}
-use Rattle.ob_seal.specs.KeySet.{KeySet, pair_of}
+use Rattle.ob_seal.specs.KeySet.{KeySet, pair_at}
 use Rattle.ob_seal.specs.Stream.{xor_stream}
 use Rattle.ob_seal.specs.Sealed.{ciphered, sealed, tag_head, tag_of}
 
-module _ (k l : KeySet) (at : At) (agree : pair_of k at.region ≡ pair_of l at.region) where
+module _ (k l : KeySet) (at : At) (agree : pair_at k at ≡ pair_at l at) where
   pub tag_agree : (text : List ℕ) → tag_of k at text ≡ tag_of l at text
   unfolding tag_of
   tag_agree text = ap (λ (p : Pair). hmac p.mac (tag_head at ++ text)) agree

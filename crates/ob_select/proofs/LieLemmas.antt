@@ -24,10 +24,8 @@ ends_reads old new lie calm none told = elim (calm (calm_none old none)) [
 ]
 
 pub cut_reads : (e : OpErr) (old new : World) (lie : Lie) → PassCause e old new → old.store.lie ≡ None → new.store.lie ≡ Some lie → ReadsIn lie new.store.asked
-cut_reads OpErrs.Failed old new lie cause none told = calm_reads old new lie cause.1 none told
 cut_reads (OpErrs.Tampered q x) old new lie cause none told = ends_reads old new lie cause.2 none told
-cut_reads OpErrs.Sink old new lie cause none told = calm_reads old new lie cause.1 none told
-cut_reads OpErrs.NoMemory old new lie cause none told = calm_reads old new lie cause.1 none told
+cut_reads other old new lie cause none told = calm_reads old new lie cause.1 none told
 
 -- ---- among the accesses that a run was to ask
 pub lie_before : (a b : StoreState) (lie : Lie) → Later a b → b.lie ≡ Some lie → (a.lie ≡ None) ⊎ (a.lie ≡ Some lie)

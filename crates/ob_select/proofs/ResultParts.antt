@@ -33,10 +33,8 @@ buffered_some p h = some_buffered p.pack p.buffer h.pack_least h.blocks
 -- the blocks of the fresh region, as the script counts them
 blocks-plan : (r : Planned) (plan : Plan) → 1 ≤ r.selection.public.pack
     → blocks_for r.selection.public.pack (slots_for r plan) ≡ result_blocks r.selection.public plan r.taken (extent_of (region_of r.selection))
-blocks-plan r Small some = refl
-blocks-plan r Large some = refl
-blocks-plan r Continuous some = refl
 blocks-plan r Hash some = blocks_whole r.selection.public.pack (r.taken * r.selection.public.depth) some
+blocks-plan r other some = refl
 
 pub blocks-fresh : (r : Planned) (g : ℕ) → 1 ≤ r.selection.public.pack
     → blocks_of r.selection.public.pack (fresh_flat r g) ≡ result_blocks r.selection.public r.plan r.taken (extent_of (region_of r.selection))
@@ -50,9 +48,7 @@ whole_is r g some = ap (λ (n : ℕ). make_part r g ++ emission_part g n) (block
 -- ---- a make comes first
 starts-plan : (r : Planned) (g : ℕ) (plan : Plan) → IsTrue (starts_with_make (plan_part r.selection.public plan r.taken g (extent_of (region_of r.selection))))
 starts-plan r g Small = refl
-starts-plan r g Large = refl
-starts-plan r g Continuous = refl
-starts-plan r g Hash = refl
+starts-plan r g other = refl
 
 pub starts-make : (r : Planned) (g : ℕ) → IsTrue (starts_with_make (make_part r g))
 starts-make r g = starts-plan r g r.plan

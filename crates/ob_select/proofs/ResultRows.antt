@@ -51,9 +51,7 @@ module _ (n : ℕ) (p : Row → Bool) (slots : Slots) where
 
 pub left_hash : (r : Planned) (slots : Slots) (plan : Plan) → None ≡ left_by r plan slots → plan ≡ Hash → unplaced r.k (bucket_size r.selection.public) (places r.selection slots) ≡ None
 left_hash r slots Hash none is = sym none
-left_hash r slots Small none is = absurd (cc is)
-left_hash r slots Large none is = absurd (cc is)
-left_hash r slots Continuous none is = absurd (cc is)
+left_hash r slots other none is = absurd (cc is)
 
 pub held_count : (r : Planned) (slots : Slots) → Suits r slots → HasRows r.plan r.k → None ≡ left_out r slots → length (rows (held_slots r slots)) ≡ r.k
 held_count r slots suits some none = by_plan (bucket_size r.selection.public) (is_true r.selection.condition) slots r.plan r.k suits.count some suits.consecutive (left_hash r slots r.plan none)

@@ -128,9 +128,7 @@ place_more done rest more place = elim place [
 -- how many were carried out
 done_few : (e : OpErr) (n m : ℕ) → n + 1 < m → done_of (is_of_access e) n + 1 < m
 done_few Failed n m h = omega arith
-done_few (Tampered q x) n m h = omega arith
-done_few Sink n m h = omega arith
-done_few NoMemory n m h = omega arith
+done_few other n m h = omega arith
 
 done_access : (e : OpErr) (n m : ℕ) → (e ≡ Sink → ⊥) × (e ≡ NoMemory → ⊥) → n < m → 1 ≤ n → done_of (is_of_access e) n + 1 < m
 done_access Failed n m never h some = omega arith

@@ -49,15 +49,11 @@ IsFinal q (Refused why) = q.public.planner ≢ Auto
 
 left_hashed : (r : Planned) (plan : Plan) (slots : Slots) (i : ℕ) → left_by r plan slots ≡ Some i → plan ≡ Hash
 left_hashed r Hash slots i is = refl
-left_hashed r Small slots i is = absurd (cc is)
-left_hashed r Large slots i is = absurd (cc is)
-left_hashed r Continuous slots i is = absurd (cc is)
+left_hashed r other slots i is = absurd (cc is)
 
 left_place : (r : Planned) (plan : Plan) (slots : Slots) (i : ℕ) → left_by r plan slots ≡ Some i → Rattle.ob_row.specs.Results.unplaced r.k (bucket_size r.selection.public) (places r.selection slots) ≡ Some i
 left_place r Hash slots i is = is
-left_place r Small slots i is = absurd (cc is)
-left_place r Large slots i is = absurd (cc is)
-left_place r Continuous slots i is = absurd (cc is)
+left_place r other slots i is = absurd (cc is)
 
 fallback_other : (planner : Planner) (left : Option ℕ) → planner ≢ Auto → fallback planner left ≡ None
 fallback_other Auto left other = absurd (other refl)

@@ -145,6 +145,4 @@ done_behind NoMemory n m le lt = le
 
 pub done_within : (e : OpErr) (n m d w : ℕ) → d ≡ n + m → 1 ≤ n → done_of (is_of_access e) m + 1 < w → done_of (is_of_access e) d + 1 < n + w
 done_within Failed n m d w is some lt = omega (arith, is, some, lt)
-done_within (Tampered r x) n m d w is some lt = omega (arith, is, some, lt)
-done_within Sink n m d w is some lt = omega (arith, is, some, lt)
-done_within NoMemory n m d w is some lt = omega (arith, is, some, lt)
+done_within other n m d w is some lt = omega (arith, is, some, lt)

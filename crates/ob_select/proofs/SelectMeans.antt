@@ -66,10 +66,8 @@ module _ (p : Public) (chosen : List ℕ) where
   seen_first Hash is = ap (λ (o : Option Plan). counted (length chosen) (Some Hash) o Whole) (is.1 refl)
 
   last_first : (plan : Plan) → Lasts plan → last_plan p plan chosen ≡ plan
-  last_first Small is = refl
-  last_first Large is = refl
-  last_first Continuous is = refl
   last_first Hash is = ap (λ (o : Option Plan). if Rattle.std.specs.Prelude.is_some o then Small else Hash) (is.1 refl)
+  last_first other is = refl
 
   -- the plan is the one that is forced
   abbrev Follows : Planner → Plan → Type 0
@@ -83,16 +81,13 @@ module _ (p : Public) (chosen : List ℕ) where
   follows (Forced other) plan pack rows n k c is = is
 
   none_refused : (planner : Planner) (plan : Plan) → Follows planner plan → (plan ≡ Continuous → IsTrue (is_consecutive chosen)) → (plan ≡ Hash → first_unplaced p chosen ≡ None) → forced_refusal p planner chosen ≡ None
-  none_refused Auto plan follows side room = refl
-  none_refused Cheapest plan follows side room = refl
-  none_refused (Forced Small) plan follows side room = refl
-  none_refused (Forced Large) plan follows side room = refl
   none_refused (Forced Continuous) plan follows side room = go (is_consecutive chosen) (side follows)
     where
       go : (b : Bool) → IsTrue b → (if b then None else Some NotConsecutive) ≡ None
       go true is = refl
       go false is = absurd (cc is)
   none_refused (Forced Hash) plan follows side room = ap (option_map Overflow) (room follows)
+  none_refused other plan follows side room = refl
 
   module _ (n : ℕ) (plan : Plan) (some : 1 ≤ length chosen) (is_plan : plan ≡ plan_for p n chosen) (unpadded : p.pad ≡ None) where
     pub seen_is_first : Lasts plan → seen_rows p n chosen ≡ counted (length chosen) (Some plan) None Whole

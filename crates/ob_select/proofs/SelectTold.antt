@@ -34,8 +34,7 @@ use Rattle.ob_select.proofs.SelectMeans.{Lasts as IsLast, seen_is_first, last_is
 
 fallback_none : (planner : Planner) → fallback planner None ≡ None
 fallback_none Auto = refl
-fallback_none Cheapest = refl
-fallback_none (Forced plan) = refl
+fallback_none other = refl
 
 -- rows are answered only where none was left out
 pub rows_left : (o : Option ℕ) (n k : ℕ) → Rows n ≡ selected_as (option_map Overflow o) k → None ≡ o

@@ -72,10 +72,8 @@ module _ {E : Type 0} (grew cut : E → E → List Event → Type 0) (head : Lis
 
   -- want of memory in the midst of them was the emitter's
   pub ends_halted : {S : Type 0} (e : OpErr) (shown : S → List (List Shown)) (a b : E) → e ≡ NoMemory → EndsAs grew cut e head shown a b → HasHalted (Leads grew cut) a b
-  ends_halted Failed shown a b none is = absurd (cc none)
-  ends_halted (Tampered q x) shown a b none is = absurd (cc none)
-  ends_halted Sink shown a b none is = absurd (cc none)
   ends_halted NoMemory shown a b none is = record { events = is.events; ends = is.ends }
+  ends_halted other shown a b none is = absurd (cc none)
 
   pub until_failed : {S : Type 0} (e : OpErr) (all : S → List Event) (a b : E) → e ≡ Failed → EmitsUntil grew cut e head all a b → TakesPart grew head all a b
   until_failed Failed all a b failed is = is

@@ -202,9 +202,6 @@ module _ {R E : Type 0} (state : R → RevState) (grew cut : E → E → List Ev
     -- what is emitted by then, for each stop
     pub sent_until : (stop : RunStop) (ran : Called {T = Unit {0}} (Err stop)) → SentUntil written waiting stop ran
     sent_until (Runs.Tampered q x) ran = took_events (Runs.Tampered q x) ran ran.stopped.ends (unwanted (Runs.Tampered q x) ran (λ is. cc is) _)
-    sent_until Runs.StoreFault ran = absurd ran.cause
-    sent_until Runs.StashFull ran = absurd ran.cause
-    sent_until Runs.KeeperFault ran = absurd ran.cause
     sent_until Runs.SinkFault ran = elim ran.stopped.ends [
       | inl short ↦ cut_events Runs.SinkFault ran (inl refl) short (unwanted Runs.SinkFault ran (λ is. cc is) _)
       | inr closing ↦ cut_closing Runs.SinkFault ran (inl refl) closing (unwanted Runs.SinkFault ran (λ is. cc is) _)
@@ -222,3 +219,4 @@ module _ {R E : Type 0} (state : R → RevState) (grew cut : E → E → List Ev
           | inl (inr short) ↦ cut_events Runs.NoMemory ran (inr refl) short (wants _)
           | inr closing ↦ cut_closing Runs.NoMemory ran (inr refl) closing (wants _)
         ]
+    sent_until other ran = absurd ran.cause

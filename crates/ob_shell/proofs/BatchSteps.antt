@@ -287,10 +287,6 @@ module _ {R : Type 0} (state : R → RevState) (e0 e1 : Engine R) (s0 s1 : Store
 
     -- nor other headings
     headings_by : (outline : Skeleton) → inserts_into outline ≡ Some table → (end : End) → headings_of (tables_then p0 outline end) ≡ headings_of p0.tables
-    headings_by outline is Static = refl
-    headings_by outline is AfterCount = refl
-    headings_by outline is Joined = refl
-    headings_by outline is (Cut n) = refl
     headings_by (K.Insert name columns) is Whole = (moves name p0.next_region p0.tables).headings
     headings_by (K.Create name columns n shape) is Whole = absurd (cc is)
     headings_by (K.Update name columns) is Whole = absurd (cc is)
@@ -298,6 +294,7 @@ module _ {R : Type 0} (state : R → RevState) (e0 e1 : Engine R) (s0 s1 : Store
     headings_by (K.Drop name) is Whole = absurd (cc is)
     headings_by (K.Rows source columns) is Whole = absurd (cc is)
     headings_by (K.Groups name columns key) is Whole = absurd (cc is)
+    headings_by outline is other = refl
 
     headings_are : headings_of p1.tables ≡ headings_of p0.tables
     headings_are = ap (λ (p : Public). headings_of p.tables) public_is ∙ headings_by (skeleton first) names here.end
@@ -305,21 +302,11 @@ module _ {R : Type 0} (state : R → RevState) (e0 e1 : Engine R) (s0 s1 : Store
     -- the table is flat still
     flat_by : (outline : Skeleton) → inserts_into outline ≡ Some table → is_access p1 outline ≡ is_index (headings_of p0.tables) table
     flat_by (K.Insert name columns) is = let same : name ≡ table = cc is in λ i. is_index (headings_are i) (same i)
-    flat_by (K.Create name columns n shape) is = absurd (cc is)
-    flat_by (K.Update name columns) is = absurd (cc is)
-    flat_by (K.Delete name) is = absurd (cc is)
-    flat_by (K.Drop name) is = absurd (cc is)
-    flat_by (K.Rows source columns) is = absurd (cc is)
-    flat_by (K.Groups name columns key) is = absurd (cc is)
+    flat_by other is = absurd (cc is)
 
     first_by : (outline : Skeleton) → inserts_into outline ≡ Some table → is_access p0 outline ≡ is_index (headings_of p0.tables) table
     first_by (K.Insert name columns) is = let same : name ≡ table = cc is in ap (is_index (headings_of p0.tables)) same
-    first_by (K.Create name columns n shape) is = absurd (cc is)
-    first_by (K.Update name columns) is = absurd (cc is)
-    first_by (K.Delete name) is = absurd (cc is)
-    first_by (K.Drop name) is = absurd (cc is)
-    first_by (K.Rows source columns) is = absurd (cc is)
-    first_by (K.Groups name columns key) is = absurd (cc is)
+    first_by other is = absurd (cc is)
 
     flat_still : (stmt : Stmt) → inserts_into (skeleton stmt) ≡ Some table → is_access p1 (skeleton stmt) ≡ false
     flat_still stmt is = flat_by (skeleton stmt) is ∙ sym (first_by (skeleton first) names) ∙ begun.flat
@@ -331,12 +318,7 @@ module _ {R : Type 0} (state : R → RevState) (e0 e1 : Engine R) (s0 s1 : Store
     undrawn_by (K.Insert name columns) AfterCount flat is = ap (λ (b : Bool). if b then 1 else 0) flat
     undrawn_by (K.Insert name columns) Joined flat is = refl
     undrawn_by (K.Insert name columns) (Cut n) flat is = ap (λ (b : Bool). if b then 1 else 0) flat
-    undrawn_by (K.Create name columns n shape) end flat is = absurd (cc is)
-    undrawn_by (K.Update name columns) end flat is = absurd (cc is)
-    undrawn_by (K.Delete name) end flat is = absurd (cc is)
-    undrawn_by (K.Drop name) end flat is = absurd (cc is)
-    undrawn_by (K.Rows source columns) end flat is = absurd (cc is)
-    undrawn_by (K.Groups name columns key) end flat is = absurd (cc is)
+    undrawn_by other end flat is = absurd (cc is)
 
     draws_still : (d : Draws) → draws_behind m0 m1 first d ≡ d
     draws_still d = let none = undrawn_by (skeleton first) here.end begun.flat names in let same : d.drawn + draws_taken p0 (skeleton first) here.end ≡ d.drawn = omega (arith, none) in λ i. record d { drawn = same i }

@@ -28,27 +28,17 @@ MeetsChange _ w = Calm w
 -- after a stop
 met : (run : RunStop) (w : World) → Calm w → MeetsChange (Err (session_stop run)) w
 met (Runs.Tampered region place) w calm = inl calm
-met Runs.SinkFault w calm = calm
-met Runs.NoMemory w calm = calm
-met Runs.StoreFault w calm = calm
-met Runs.StashFull w calm = calm
-met Runs.KeeperFault w calm = calm
+met other w calm = calm
 
 stop_met : (p : Public) (outline : Skeleton) (run : RunStop) (a b : World) → ServedCause p outline (Err run) a b → Calm a → MeetsChange (Err (session_stop run)) b
 stop_met p outline (Runs.Tampered region place) a b cause calm = cause.2 calm
-stop_met p outline Runs.SinkFault a b cause calm = cause.1 calm
-stop_met p outline Runs.NoMemory a b cause calm = cause.1 calm
-stop_met p outline Runs.StoreFault a b cause calm = cause.1 calm
-stop_met p outline Runs.StashFull a b cause calm = cause.1 calm
-stop_met p outline Runs.KeeperFault a b cause calm = cause.1 calm
+stop_met p outline other a b cause calm = cause.1 calm
 
 flight_met : (run : RunStop) (a b : World) → FlightCause {T = Unit {0}} (Err run) a b → Calm a → MeetsChange (Err (session_stop run)) b
 flight_met (Runs.Tampered region place) a b cause calm = cause.1 calm
 flight_met Runs.SinkFault a b cause calm = cause calm
 flight_met Runs.NoMemory a b cause calm = cause calm
-flight_met Runs.StoreFault a b cause calm = absurd cause
-flight_met Runs.StashFull a b cause calm = absurd cause
-flight_met Runs.KeeperFault a b cause calm = absurd cause
+flight_met other a b cause calm = absurd cause
 
 module _ {R : Type 0} (state : R → RevState) where
   abbrev IsCalm : Machine R → Type 0

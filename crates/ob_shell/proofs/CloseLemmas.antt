@@ -82,16 +82,8 @@ reported_words tally tr {settings = settings} {flight = flight} {gave = gave} {l
 -- the words were taken
 pub words_taken : (ending : Ending) {Takes : Type 0} → EndingWords ending ⊤ → Takes → EndingWords ending Takes
 words_taken Usage not t = absurd (not tt)
-words_taken BadKey taken t = t
-words_taken (Ran (Ok refused)) taken t = t
-words_taken (Ran (Err (Tampered region place))) taken t = t
-words_taken (Ran (Err SourceFault)) taken t = t
-words_taken (Ran (Err SinkFault)) taken t = t
 words_taken (Ran (Err NoMemory)) taken t = tt
-words_taken (Ran (Err InputLimit)) taken t = t
-words_taken (Ran (Err StoreFault)) taken t = t
-words_taken (Ran (Err StashFull)) taken t = t
-words_taken (Ran (Err KeeperFault)) taken t = t
+words_taken other taken t = t
 
 unfoldable pub reported_taken : {tally : Tally} {tr : TraceSink} {Takes : Type 0} {keys : List ℕ → KeySet} {settings asked : Option Config} {flight : Option FlightSettings} {gave : ℕ}
     {l0 l1 w0 w1 : Option (List ℕ)} {s0 s1 : StoreState} {old new : Faults} {report : Report}

@@ -85,13 +85,8 @@ ends_in q x w lie is ends =
     subst (λ (l : Lie). ReadsIn l w.store.asked) same (record { rest = []; is = sym ends.asked })
 
 lie_within : (p : Public) (outline : Skeleton) (result : Result Outcome RunStop) (old new : World) (lie : Lie) → ServedCause p outline result old new → Calm old → new.store.lie ≡ Some lie → ReadsIn lie new.store.asked
-lie_within p outline (Ok outcome) old new lie cause calm is = (cause.1 calm).within lie is
 lie_within p outline (Err (Tampered q x)) old new lie cause calm is = elim (cause.2 calm) [ inl still ↦ still.within lie is | inr ends ↦ ends_in q x new lie is ends ]
-lie_within p outline (Err SinkFault) old new lie cause calm is = (cause.1 calm).within lie is
-lie_within p outline (Err NoMemory) old new lie cause calm is = (cause.1 calm).within lie is
-lie_within p outline (Err StoreFault) old new lie cause calm is = (cause.1 calm).within lie is
-lie_within p outline (Err StashFull) old new lie cause calm is = (cause.1 calm).within lie is
-lie_within p outline (Err KeeperFault) old new lie cause calm is = (cause.1 calm).within lie is
+lie_within p outline other old new lie cause calm is = (cause.1 calm).within lie is
 
 module _ {R : Type 0} (state : R → RevState) (m0 m1 : Machine R) (d : Draws) (drawn : AreDraws m0.engine d) (tables : Tables) (stmt : Stmt) (result : Result Outcome RunStop) (does : Does state m0 m1 stmt result)
     (tells : IsTrue m0.store.tells) (steady : IsSteady m0.store) (held : Represents state m0.engine m0.store tables) (n : ℕ) (before : IsBefore m0.store.disturbed n)

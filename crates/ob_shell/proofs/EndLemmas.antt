@@ -35,12 +35,7 @@ refused_failed g r n = refl
 
 end_failed : (g : Option Gathering) (o : Outcome) (n : ℕ) → is_failed g (outcome_end o n) ≡ is_fault o
 end_failed g (Refused r) n = refused_failed g r n
-end_failed g Created n = refl
-end_failed g Inserted n = refl
-end_failed g (Changed k) n = refl
-end_failed g (Deleted k) n = refl
-end_failed g Dropped n = refl
-end_failed g (Rows k) n = refl
+end_failed g other n = refl
 
 pub failed_by : (g : Option Gathering) (o : Outcome) (end : End) (n : ℕ) → end ≡ outcome_end o n → IsTrue (is_failed g end) ↔ (o ≡ Refused StoreFault)
 failed_by g o end n ends =
@@ -54,13 +49,7 @@ refused_apart r n = refl
 
 pub end_apart : (result : Result Outcome RunStop) (n : ℕ) → is_joined (result_end result n) ≡ false
 end_apart (Ok (Refused r)) n = refused_apart r n
-end_apart (Ok Created) n = refl
-end_apart (Ok Inserted) n = refl
-end_apart (Ok (Changed k)) n = refl
-end_apart (Ok (Deleted k)) n = refl
-end_apart (Ok Dropped) n = refl
-end_apart (Ok (Rows k)) n = refl
-end_apart (Err stop) n = refl
+end_apart other n = refl
 
 pub alone_joins : (p : Public) (m : ℕ) (g : Option Gathering) (stmt : Stmt) (here : Seen) (result : Result Outcome RunStop) (n : ℕ) → goes_into p g (skeleton stmt) ≡ false → here.end ≡ result_end result n → Joins p m g stmt here
 alone_joins p m g stmt here result n off ends = ap is_joined ends ∙ end_apart result n ∙ ap (λ (b : Bool). b && is_unrefused p m stmt) (sym off)

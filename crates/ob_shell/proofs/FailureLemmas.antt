@@ -36,24 +36,14 @@ grows a b c n m first second = omega (arith, first, second)
 -- the answer that the store failed comes only where the count rose
 no_failure : (o : Outcome) → is_fault o ≡ false → outcome_failures o ≡ 0
 no_failure (Refused r) e = ap (λ (b : Bool). if b then 1 else 0) e
-no_failure Created e = refl
-no_failure Inserted e = refl
-no_failure (Changed n) e = refl
-no_failure (Deleted n) e = refl
-no_failure Dropped e = refl
-no_failure (Rows k) e = refl
+no_failure other e = refl
 
 one_failure : (o : Outcome) → outcome_failures o ≤ 1
 one_failure (Refused r) = at_most (is_store_fault r) where
   at_most : (b : Bool) → (if b then 1 else 0) ≤ 1
   at_most true = omega arith
   at_most false = omega arith
-one_failure Created = omega arith
-one_failure Inserted = omega arith
-one_failure (Changed n) = omega arith
-one_failure (Deleted n) = omega arith
-one_failure Dropped = omega arith
-one_failure (Rows k) = omega arith
+one_failure other = omega arith
 
 pub answered : (o : Outcome) (a b : ℕ) → by_fault (is_fault o) (Rises a b) (b ≡ a) → RisesBy (outcome_failures o) a b
 answered o a b cause = go (is_fault o) refl cause where
@@ -117,12 +107,7 @@ not_fault r off = refl
 
 not_failure : (o : Outcome) → (o ≡ Refused StoreFault → ⊥) → outcome_failures o ≡ 0
 not_failure (Refused r) off = not_fault r (λ is. off (ap (λ (x : Refusal). Refused x) is))
-not_failure Created off = refl
-not_failure Inserted off = refl
-not_failure (Changed n) off = refl
-not_failure (Deleted n) off = refl
-not_failure Dropped off = refl
-not_failure (Rows k) off = refl
+not_failure other off = refl
 
 -- nor is what is gathered
 one_more : (g : Option Gathering) → has_failed g ≡ false → has_failed (option_map and_one g) ≡ false

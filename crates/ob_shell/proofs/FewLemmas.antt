@@ -234,10 +234,7 @@ within_limits p late (RowsStmt q) seen public flat accepted holds = source_count
 -- ---- a statement on flat tables asks the same whatever the slots of a stash are
 result_same : (p : Public) (plan : Option Plan) (k g : ℕ) (t : _) → result_part (stashless p) plan k g t ≡ result_part p plan k g t
 result_same p None k g t = refl
-result_same p (Some Small) k g t = refl
-result_same p (Some Large) k g t = refl
-result_same p (Some Continuous) k g t = refl
-result_same p (Some Hash) k g t = refl
+result_same p other k g t = refl
 
 behind_same : (p : Public) (seen : Seen) (pad k : Option ℕ) (g : ℕ) (t : _) (ending : List Access) → seen.k ≡ k → behind_count pad (stashless p) seen g t ending ≡ behind_count pad p seen g t ending
 behind_same p seen (Some pad) k g t ending is =
@@ -249,12 +246,6 @@ behind_same p seen None k g t ending is = ap (λ (o : Option ℕ). after_count (
     go (Some n) = λ i. result_same p seen.plan n g t i ++ (result_same p seen.then n (g + 1) t i ++ ending)
 
 whole_same : (p : Public) (s : Skeleton) (seen : Seen) → flat_whole (stashless p) s seen ≡ flat_whole p s seen
-whole_same p (K.Create table cs n shape) seen = refl
-whole_same p (K.Insert table cs) seen = refl
-whole_same p (K.Update table cs) seen = refl
-whole_same p (K.Delete table) seen = refl
-whole_same p (K.Drop table) seen = refl
-whole_same p (K.Groups table cs key) seen = refl
 whole_same p (K.Rows (OneTable name) cs) seen =
     λ i. with_table name p (λ t. count_part t.held (blocks_of p (extent_of t)) ++ behind_same p seen p.pad seen.k p.next_region (extent_of t) [] refl i)
 whole_same p (K.Rows (Join a b on equals) cs) seen =
@@ -262,6 +253,7 @@ whole_same p (K.Rows (Join a b on equals) cs) seen =
     let t = joined_extent p left.heading right.heading in
     join_part left.held right.held p.next_region (blocks_of p (extent_of left)) (blocks_of p (extent_of right)) (buffered_blocks p.pack p.buffer) (rows_width p t)
     ++ (count_part t.region (blocks_of p t) ++ behind_same p seen p.pad seen.k (p.next_region + 1) t (discard_at p.next_region) refl i)))
+whole_same p other seen = refl
 
 script_same : (p : Public) (s : Skeleton) (seen : Seen) → IsFlat p → MakesFlat s → script (stashless p) s seen ≡ script p s seen
 script_same p s seen flat made = ap (until_end seen.end) (script_is (stashless p) flat s seen made ∙ whole_same p s seen ∙ sym (script_is p flat s seen made))
@@ -306,12 +298,7 @@ pub insert_few : {R : Type 0} (state : R → RevState) (e : Engine R) (s : Store
 insert_few state e s (K.Insert table columns) seen agrees small inserts apart =
     subst (λ (l : List Access). length l < 2 ^ 49) (insert_same (public_of e) table columns seen apart)
     (script_few (stashless (public_of e)) (K.Insert table columns) seen (public_is state e s agrees small) (λ started. insert_within (public_of e) table columns seen apart))
-insert_few state e s (K.Create table cs n shape) seen agrees small inserts apart = absurd (cc inserts)
-insert_few state e s (K.Update table cs) seen agrees small inserts apart = absurd (cc inserts)
-insert_few state e s (K.Delete table) seen agrees small inserts apart = absurd (cc inserts)
-insert_few state e s (K.Drop table) seen agrees small inserts apart = absurd (cc inserts)
-insert_few state e s (K.Rows source cs) seen agrees small inserts apart = absurd (cc inserts)
-insert_few state e s (K.Groups table cs key) seen agrees small inserts apart = absurd (cc inserts)
+insert_few state e s other seen agrees small inserts apart = absurd (cc inserts)
 
 -- the tables are kept for the next run
 abbrev pub IsKept : {R : Type 0} → Machine R → Type 0

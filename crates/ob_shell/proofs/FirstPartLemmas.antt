@@ -39,20 +39,16 @@ begins_all all = record { rest = []; joined = sym (append-nil all) }
 -- ---- any statement, while what is read was written there
 -- the meaning of a statement that isn't refused early asks all of it
 abbrev IsToEnd : End → Type 0
-IsToEnd Static = ⊥
 IsToEnd Whole = Unit {0}
 IsToEnd AfterCount = Unit {0}
-IsToEnd Joined = ⊥
-IsToEnd (Cut n) = ⊥
+IsToEnd other = ⊥
 
 with_ends : (p : Public) (plan : Plan) (places : List ℕ) → IsToEnd (seen_with p plan places).end
-with_ends p Small places = tt
-with_ends p Large places = tt
-with_ends p Hash places = tt
 with_ends p Continuous places = go _ where
   go : (b : Bool) → IsToEnd (cond b (counted (length places) (Some Continuous) None Whole) (counted (length places) None None AfterCount)).end
   go true = tt
   go false = tt
+with_ends p other places = tt
 
 rows_end : (pad : Option ℕ) (p : Public) (n : ℕ) (places : List ℕ) → IsToEnd (seen_by pad p n places).end
 rows_end (Some pad) p n places = tt
@@ -60,24 +56,17 @@ rows_end None p n [] = tt
 rows_end None p n (i ∷ is) = with_ends p _ (i ∷ is)
 
 started_ends : (p : Public) (tables : Tables) (stmt : Stmt) → IsToEnd (seen_started p tables stmt).end
-started_ends p tables (Create table columns capacity shape) = tt
-started_ends p tables (Insert table columns values) = tt
-started_ends p tables (Update table sets cond) = tt
-started_ends p tables (Delete table cond) = tt
-started_ends p tables (DropTable table) = tt
-started_ends p tables (TotalsStmt q) = tt
 started_ends p tables (RowsStmt q) = rows_end p.pad p _ _
+started_ends p tables other = tt
 
 served_ends : (d : Draws) (o : Option Accessed) (p : Public) (tables : Tables) (stmt : Stmt) → IsToEnd (seen_served d o p tables stmt).end
 served_ends d None p tables stmt = started_ends p tables stmt
 served_ends d (Some a) p tables stmt = tt
 
 to_end : (end : End) (all : List Access) → IsToEnd end → until_end end all ≡ all
-to_end Static all ends = absurd ends
 to_end Whole all ends = refl
 to_end AfterCount all ends = refl
-to_end Joined all ends = absurd ends
-to_end (Cut n) all ends = absurd ends
+to_end other all ends = absurd ends
 
 -- what was asked of a statement that was cut off after n accesses is a first part of what its meaning asks
 begins_cut : (d : Draws) (p : Public) (m : ℕ) (tables : Tables) (stmt : Stmt) (failed : Bool) (n : ℕ) → early_refusal (is_late m) (limits_of p) (headings tables) stmt ≡ None

@@ -145,12 +145,10 @@ sink_so w0 w1 Lost Runs.KeeperFault first answers bytes part out whole prints =
 
 -- ---- the stop
 pub never_within : (run : RunStop) (old new : World) → FlightCause {T = Unit {0}} (Err run) old new → ends_within (Ran (Err (session_stop run))) ≡ true → ⊥
-never_within (Runs.Tampered region place) old new cause is = cc is
-never_within Runs.SinkFault old new cause is = cc is
-never_within Runs.NoMemory old new cause is = cc is
 never_within Runs.StoreFault old new cause is = cause
 never_within Runs.StashFull old new cause is = cause
 never_within Runs.KeeperFault old new cause is = cause
+never_within other old new cause is = cc is
 
 pub carried_by : (run : RunStop) (k : ℕ) → done_of (is_refused run) k ≡ done_of (is_tampered (Ran (Err (session_stop run)))) k
 carried_by run k = ap (λ (b : Bool). done_of b k) (tampered_as run)

@@ -56,12 +56,7 @@ none_cut (x ∷ xs) not =
 -- so many answers are that it had
 by_fault_one : (o : Outcome) → outcome_failures o ≡ (if is_fault o then 1 else 0)
 by_fault_one (Refused r) = refl
-by_fault_one Created = refl
-by_fault_one Inserted = refl
-by_fault_one (Changed n) = refl
-by_fault_one (Deleted n) = refl
-by_fault_one Dropped = refl
-by_fault_one (Rows k) = refl
+by_fault_one other = refl
 
 pub failed_same : (fs : List Flown) (given : List Answer) → All Stood fs → AllAnswered fs given → failures given ≡ cut_off (served_in_all fs)
 unfolding failures cut_off

@@ -30,9 +30,7 @@ unless_memory : (run : RunStop) (asked : List Access) (seats : List Seat) (stmts
 unless_memory Runs.NoMemory asked seats stmts seen off wants = wants refl
 unless_memory (Runs.Tampered region place) asked seats stmts seen off wants = leaves_otherwise _ asked seats stmts seen refl (λ is. cc is)
 unless_memory Runs.SinkFault asked seats stmts seen off wants = leaves_otherwise _ asked seats stmts seen refl (λ is. cc is)
-unless_memory Runs.StoreFault asked seats stmts seen off wants = absurd (off refl)
-unless_memory Runs.StashFull asked seats stmts seen off wants = absurd (off refl)
-unless_memory Runs.KeeperFault asked seats stmts seen off wants = absurd (off refl)
+unless_memory other asked seats stmts seen off wants = absurd (off refl)
 
 module _ {R : Type 0} (state : R → RevState) (m1 m2 : Machine R) (more : List (List ℕ)) (part : List ℕ) (w0 w1 : Option (List ℕ)) (Lost : Type 0) (first : List Answer) (out : Outputs w0 w1 Lost (printed first ++ part)) (whole : Took w0 w1 (printed first)) (run : RunStop) where
   module _ (cut : CutTogether state m1 m2 more run part) where

@@ -30,12 +30,8 @@ use Rattle.ob_verdict.specs.declared.outcome.Outcome.{Outcome}
 
 -- all of it is printed
 prints_all : (stop : RunStop) (text : List ℕ) → PrintsUntil (session_stop stop) text text
-prints_all (Runs.Tampered q x) text = refl
-prints_all Runs.SinkFault text = refl
 prints_all Runs.NoMemory text = record { lost = []; whole = sym (append-nil text) }
-prints_all Runs.StoreFault text = refl
-prints_all Runs.StashFull text = refl
-prints_all Runs.KeeperFault text = refl
+prints_all other text = refl
 
 -- what is known of an emitter of their answers
 pub record Knows {E : Type 0} (grew cut : E → E → List Event → Type 0) (closed parted : E → E → ℕ → Outcome → Type 0) (written : E → Option (List ℕ)) (waiting : E → List ℕ) (outcomes : E → List Outcome) : Type 0 where

@@ -168,12 +168,8 @@ leaves_otherwise ending asked [] stmts seen off not = tt
 leaves_otherwise ending asked (v ∷ seats) stmts seen off not = leaves_at ending asked (OneMakes (v ∷ seats) stmts seen ⊎ FirstWants (v ∷ seats) stmts seen) v.left off not
 
 pub prints_whole : (run : RunStop) (xs : List ℕ) → PrintsUntil (session_stop run) xs xs
-prints_whole (Runs.Tampered region place) xs = refl
-prints_whole Runs.SinkFault xs = refl
 prints_whole Runs.NoMemory xs = record { lost = []; whole = sym (append-nil xs) }
-prints_whole Runs.StoreFault xs = refl
-prints_whole Runs.StashFull xs = refl
-prints_whole Runs.KeeperFault xs = refl
+prints_whole other xs = refl
 
 -- the one behind those that were kept
 pub nth_answered : (xs : List Flown) (kept : List Answer) (one : Answer) (lost : List Answer) (f : Flown) → FirstAnswered xs (kept ++ (one ∷ lost)) → slice_get xs (length kept) ≡ Some f → IsAnswerOf f one

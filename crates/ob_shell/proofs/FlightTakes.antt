@@ -64,13 +64,8 @@ flies_one p m stmt may = record { selects = selects (skeleton stmt) may; flat = 
         not_true : (b : Bool) → not b ≡ true → b ≡ false
         not_true true is = absurd (cc is)
         not_true false is = refl
-    flat (Rows (Join left right on equals) columns) may = absurd (cc may)
     flat (Groups table columns key) may = refl
-    flat (CreateSkeleton table columns n shape) may = absurd (cc may)
-    flat (InsertSkeleton table columns) may = absurd (cc may)
-    flat (UpdateSkeleton table columns) may = absurd (cc may)
-    flat (DeleteSkeleton table) may = absurd (cc may)
-    flat (DropSkeleton table) may = absurd (cc may)
+    flat other may = absurd (cc may)
 
 pub are_flight : (p : Public) (m : ℕ) (stmts : List Stmt) → All (λ (stmt : Stmt). may_fly p (skeleton stmt) ≡ true) stmts → 2 ≤ length stmts → length stmts ≤ max 1 (min 8 (p.buffer / (3 * p.pack + 1))) → AreFlight p m stmts
 are_flight p m stmts fly some few = record {

@@ -43,11 +43,7 @@ use Rattle.ob_verdict.specs.declared.outcome.Outcome.{Outcome}
 -- nothing is printed of a statement that emits nothing
 none_printed : (stop : RunStop) → PrintsUntil (session_stop stop) [] (events_text [])
 none_printed Runs.NoMemory = record { lost = []; whole = events_none }
-none_printed (Runs.Tampered q x) = sym events_none
-none_printed Runs.SinkFault = sym events_none
-none_printed Runs.StoreFault = sym events_none
-none_printed Runs.StashFull = sym events_none
-none_printed Runs.KeeperFault = sym events_none
+none_printed other = sym events_none
 
 module _ {R : Type 0} (state : R → RevState) (e0 e1 : Engine R) (s0 s1 : StoreState) (k0 k1 : KeeperState) (flights : Flights) (first : Stmt) (rest : List Stmt) (agrees : Agrees state e0 s0) (batch : AreBatch (public_of e0) (count_of e0 s0) first rest)
     (on : Bool) (g : Gathered) (off : IsApartFrom flights.settings (public_of e0) g (skeleton first)) (held : List (List ℕ)) (spelt : AreSpelt held (first ∷ rest)) where
@@ -161,13 +157,8 @@ lost_with by cut = record { done = cut.done; one = cut.one; rest = cut.rest; par
 
 -- an INSERT emits nothing
 unemitted : (stmt : Stmt) → IsSome (inserts_into (skeleton stmt)) → MayEmit stmt → ⊥
-unemitted (S.Create table columns capacity shape) some emits = cc some
 unemitted (S.Insert table columns values) some emits = emits
-unemitted (S.Update table sets cond) some emits = cc some
-unemitted (S.Delete table cond) some emits = cc some
-unemitted (S.Drop table) some emits = cc some
-unemitted (S.SelectRows select) some emits = cc some
-unemitted (S.SelectTotals select) some emits = cc some
+unemitted other some emits = cc some
 
 -- so no sink stops it
 pub batch_unsunk : {R : Type 0} {state : R → RevState} {first : Stmt} {rest : List Stmt} {outcomes : List Outcome} {e0 e1 : Engine R} {s0 s1 : StoreState} {k0 k1 : KeeperState} (stop : RunStop) → AreBatch (public_of e0) (count_of e0 s0) first rest → RanBatch state first rest (Err stop) outcomes e0 s0 e1 s1 k0 k1 → stop ≡ Runs.SinkFault → ⊥

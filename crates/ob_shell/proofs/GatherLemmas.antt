@@ -80,13 +80,8 @@ gather_insert : (settings : Option FlightSettings) (p : Public) (outline : Skele
 gather_insert settings p outline some = map_some (inserts_into outline) (batch_most p) (most_flown settings p) some
 
 pub no_insert : (p : Public) (outline : Skeleton) → may_fly p outline ≡ true → inserts_into outline ≡ None
-no_insert p (Rows source columns) may = refl
-no_insert p (Groups table columns key) may = refl
-no_insert p (CreateSkeleton table columns n shape) may = refl
 no_insert p (InsertSkeleton table columns) may = absurd (cc may)
-no_insert p (UpdateSkeleton table columns) may = refl
-no_insert p (DeleteSkeleton table) may = refl
-no_insert p (DropSkeleton table) may = refl
+no_insert p other may = refl
 
 gather_select : (settings : Option FlightSettings) (p : Public) (outline : Skeleton) → may_fly p outline ≡ true → gather_most settings p outline ≡ most_flown settings p
 gather_select settings p outline may = ap (λ (o : Option (List ℕ)). option_map_or (λ (table : List ℕ). batch_most p) o (most_flown settings p)) (no_insert p outline may)
@@ -156,11 +151,7 @@ free_more settings p (first ∷ rest) stmt g goes free = free
 pub not_flying : (p : Public) (outline : Skeleton) → IsSome (inserts_into outline) → may_fly p outline ≡ false
 not_flying p (Rows source columns) some = absurd (cc some)
 not_flying p (Groups table columns key) some = absurd (cc some)
-not_flying p (CreateSkeleton table columns n shape) some = refl
-not_flying p (InsertSkeleton table columns) some = refl
-not_flying p (UpdateSkeleton table columns) some = refl
-not_flying p (DeleteSkeleton table) some = refl
-not_flying p (DropSkeleton table) some = refl
+not_flying p other some = refl
 
 none_or : (a b : Option (List ℕ)) → a ≡ None → (b ≡ None) ⊎ (b ≡ a → ⊥)
 none_or a None is = inl refl

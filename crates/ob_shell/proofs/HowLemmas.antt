@@ -44,30 +44,18 @@ StartsApart most p gathered (Ok stmt ∷ spelt) = place_now most p gathered (ske
 
 -- ---- a SELECT leaves what there is
 after_select : (p : Public) (sk : Skeleton) → may_fly p sk ≡ true → tables_after p sk ≡ p.tables
-after_select p (K.Create table cs n shape) fly = absurd (cc fly)
-after_select p (K.Insert table cs) fly = absurd (cc fly)
-after_select p (K.Update table cs) fly = absurd (cc fly)
-after_select p (K.Delete table) fly = absurd (cc fly)
-after_select p (K.Drop table) fly = absurd (cc fly)
 after_select p (K.Rows source cs) fly = refl
 after_select p (K.Groups table cs key) fly = refl
+after_select p other fly = absurd (cc fly)
 
 pub then_select : (p : Public) (sk : Skeleton) (end : End) → may_fly p sk ≡ true → tables_then p sk end ≡ p.tables
-then_select p sk Static fly = refl
 then_select p sk Whole fly = after_select p sk fly
-then_select p sk AfterCount fly = refl
-then_select p sk Joined fly = refl
-then_select p sk (Cut n) fly = refl
+then_select p sk other fly = refl
 
 pub may_by : (p q : Public) (sk : Skeleton) → q.tables ≡ p.tables → may_fly q sk ≡ may_fly p sk
-may_by p q (K.Create table cs n shape) same = refl
-may_by p q (K.Insert table cs) same = refl
-may_by p q (K.Update table cs) same = refl
-may_by p q (K.Delete table) same = refl
-may_by p q (K.Drop table) same = refl
 may_by p q (K.Rows (OneTable name) cs) same = ap (λ (ts : List Table). may_fly (record p { tables = ts }) (K.Rows (OneTable name) cs)) same
-may_by p q (K.Rows (Join a b on equals) cs) same = refl
 may_by p q (K.Groups table cs key) same = ap (λ (ts : List Table). may_fly (record p { tables = ts }) (K.Groups table cs key)) same
+may_by p q other same = refl
 
 -- ---- those that wait come first, where the next one doesn't fly with them
 module _ (most : ℕ) (words : ℕ → ℕ) (c : Course) where

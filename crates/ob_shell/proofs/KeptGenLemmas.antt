@@ -1,11 +1,12 @@
 -- A run whose tables are kept over the generated text, and one whose words are not read.
 use Rattle.std.specs.Prelude.{◌≢◌}
-use Rattle.std.proofs.Common.{◌≡◌, ◌≤◌, ℕ, Bool, true, false, List, [], Option, Some, None, Ok, Err, inl, inr, refl, sym, subst, arith}
+use Rattle.std.proofs.Common.{◌≡◌, ◌≤◌, ℕ, Bool, true, false, List, [], Option, Some, None, Result, Ok, Err, inl, inr, refl, sym, subst, arith}
 use Rattle.std.specs.Io.KnownBytes.{Appends}
 use Rattle.ob_headline.specs.declared.flight.FlightSettings.{FlightSettings}
 use Rattle.ob_base.specs.Counts.{Rises}
 use Rattle.ob_base.specs.declared.access.Access.{Access}
 use Rattle.ob_base.specs.declared.config.Config.{Config}
+use Rattle.ob_base.specs.declared.refusal.Stop.{Stop}
 use Rattle.ob_gen.specs.Generated.{generated}
 use Rattle.ob_gen.specs.Tally.{empty_tally}
 use Rattle.ob_gen.specs.declared.tally.Tally.{Tally}
@@ -14,10 +15,10 @@ use Rattle.ob_headline.specs.Bases.{flying, fresh}
 use Rattle.ob_headline.specs.Endings.{last_line, status_of}
 use Rattle.ob_headline.specs.Keeping.{kept_line, kept_status}
 use Rattle.ob_headline.specs.KeptHeadline.{EndsUnkeyed, KeptHeadline, Unkeyed}
-use Rattle.ob_headline.specs.Words.{Faults, Outside, SinksRose, faults_of, keys_in, outside_of}
+use Rattle.ob_headline.specs.Words.{Answer, Faults, Outside, SinksRose, faults_of, keys_in, outside_of}
 use Rattle.ob_headline.specs.declared.ending.Ending.TheVariants.{Usage, BadKey, Ran}
 use Rattle.ob_headline.specs.declared.ending.KeptEnding.{KeptEnding}
-use Rattle.ob_headline.specs.declared.ending.KeptEnding.TheVariants.{Plain, OtherPack, Saved, NoMark, NotClosed as LeftOpen, KeeperFault, StoreFault}
+use Rattle.ob_headline.specs.declared.ending.KeptEnding.TheVariants.{Plain, OtherPack, OtherKey, Saved, NoMark, NotClosed as LeftOpen, KeeperFault, StoreFault}
 use Rattle.ob_headline.specs.declared.ending.Report.{Report}
 use Rattle.ob_headline.specs.declared.seed.Seed.{Seed}
 use Rattle.ob_print.proofs.CutLemmas.{Outputs-whole}
@@ -28,12 +29,13 @@ use Rattle.ob_shell.proofs.CompleteLemmas.{reported_line}
 use Rattle.ob_shell.proofs.CountLemmas.{silenced_kept, silenced_rose}
 use Rattle.ob_shell.proofs.GeneratingLemmas.{cut_rose, nothing_written, trace_rose, unread_summarized}
 use Rattle.ob_shell.proofs.HeadLemmas.{headlined}
-use Rattle.ob_shell.proofs.KeptLemmas.{ends_whole, kept_headlined, kept_told}
+use Rattle.ob_shell.proofs.KeptLemmas.{HeadTold, ends_whole, kept_headed}
 use Rattle.ob_shell.proofs.TopLemmas.{shown_line}
 use Rattle.ob_shell.proofs.TraceLemmas.{traced_none, traced_whole}
 use Rattle.ob_shell.specs.Closed.{LineWritten, refused_by}
 use Rattle.ob_shell.specs.Engaging.{IsHushed, KeptClosedBy, KeptConcludedBy, KeptGenerated, RanKept}
-use Rattle.ob_shell.specs.KeptSummary.{KeptConcludes, KeptStatusIs, KeptSummarized, KeptTally, MayKeep, kept_conclusion}
+use Rattle.ob_shell.specs.KeptSummary.{KeptConcludes, KeptStatusIs, KeptSummarized, KeptTally, MayKeep, SummarizedBy, kept_conclusion}
+use Rattle.ob_shell.specs.Running.{StopCause}
 use Rattle.ob_shell.specs.Top.{IsFresh, Reported, RunShown, sink_of}
 use Rattle.ob_shell.specs.declared.keeping.KeptEnded.{KeptEnded}
 use Rattle.ob_words.specs.declared.words.WordsErr.{WordsErr}
@@ -84,6 +86,7 @@ module _ (tally : Tally) (asked : List Access) (w0 w1 : Option (List ℕ)) (sour
   }
   kept_concludes (Plain (Ran (Err stop))) quiet by hush calm = line_concludes (Plain (Ran (Err stop))) quiet by hush by.told refl
   kept_concludes OtherPack quiet by hush calm = line_concludes OtherPack quiet by hush by.told refl
+  kept_concludes OtherKey quiet by hush calm = line_concludes OtherKey quiet by hush by.told refl
   kept_concludes Saved quiet by hush calm = line_concludes Saved quiet by hush by.told refl
   kept_concludes NoMark quiet by hush calm = line_concludes NoMark quiet by hush by.told refl
   kept_concludes StoreFault quiet by hush calm = line_concludes StoreFault quiet by hush by.told refl
@@ -94,6 +97,28 @@ module _ (tally : Tally) (asked : List Access) (w0 w1 : Option (List ℕ)) (sour
 pub concluded_at : {ending : KeptEnding} {tally : Tally} {asked : List Access} {w0 w1 : Option (List ℕ)} {old new : Faults} {report : Report} (rows : ℕ)
     → report.high ≡ rows → KeptConcludes ending tally asked report.high w0 w1 old new report → KeptConcludes ending tally asked rows w0 w1 old new report
 concluded_at rows is c = record { grew = c.grew; silent = c.silent; status = c.status; later = c.later; high = is }
+
+-- ---- a run over the generated text, by its headline
+-- the line of one of which nothing is kept
+pub unkept_line : (ending : KeptEnding) → LineWritten (kept_line ending) None None 0 0
+unkept_line ending = record { cut = Outputs-whole None None (Rises 0 0) (kept_line ending) tt; later = omega arith; empty = λ e. refl }
+
+module _ (Head : (old new : Outside) → Report → Type 0) (ending_of : (old new : Outside) (report : Report) → Head old new report → KeptEnding) (answers_of : (old new : Outside) (report : Report) → Head old new report → List Answer) where
+  pub summarized_by : {seed : Seed} {s0 s1 : StoreState} {t0 t1 w0 w1 l : Option (List ℕ)} {gave trace0 trace1 out0 out1 : ℕ} {report : Report} (source : ℕ) (ended : KeptEnded) (left : List ℕ) (given : ℕ)
+      → HeadTold (Head (outside_of (Some (generated seed.start seed.rows)) 0 None t0 s0 (faults_of 0 0 trace0)) (outside_of (Some left) given None t1 s1 (faults_of 0 0 trace1)) (record { status = kept_status ended.ending; high = ended.high })) (ending_of _ _ _) (answers_of _ _ _) ended
+      → report.high ≡ ended.high → KeptConcludedBy ended.ending ended.quiet ended.tally s1.asked w0 w1 out0 out1 report.status → IsHushed ended.quiet trace0 trace1 → ((refused : Bool) → ended.ending ≡ Plain (Ran (Ok refused)) → trace1 ≡ trace0)
+      → SummarizedBy Head ending_of answers_of seed (outside_of l gave w0 t0 s0 (faults_of source out0 trace0)) (outside_of l gave w1 t1 s1 (faults_of source out1 trace1)) report
+  summarized_by {s1 = s1} {w0 = w0} {w1 = w1} {trace0 = trace0} {trace1 = trace1} {out0 = out0} {out1 = out1} {report = report} source ended left given told high concluded hush calm = record {
+    unread = record { left = refl; gave = refl; source = refl };
+    run = record { status = kept_status ended.ending; high = ended.high };
+    left = left;
+    gave = given;
+    headline = told.head;
+    tally = ended.tally;
+    counted = subst (λ (e : KeptEnding). KeptTally e (answers_of _ _ _ told.head) ended.tally) (sym told.ending) told.counted;
+    concludes = subst (λ (e : KeptEnding). KeptConcludes e ended.tally s1.asked ended.high w0 w1 (faults_of source out0 trace0) (faults_of source out1 trace1) report) (sym told.ending)
+        (concluded_at ended.high high (kept_concludes ended.tally s1.asked w0 w1 source trace0 trace1 out0 out1 report ended.ending ended.quiet concluded hush calm));
+  }
 
 -- ---- the run
 module _ (config : Config) (flight : Option FlightSettings) (tracing : Bool) (ended : KeptEnded) (old mid : Outside) (k0 k1 : KeeperState) where
@@ -116,28 +141,17 @@ pub kept_summarized : {Takes : Type 0} {settings : Option Config} {flight : Opti
     {report : Report} (source : ℕ)
     → Takes → settings ≡ Some config → s0.asked ≡ [] → KeptGenerated config flight tracing seed t0 t1 s0 s1 trace0 trace1 k0 k1 w0 w1 out0 out1 report
     → KeptSummarized settings flight Takes tracing seed (outside_of l gave w0 t0 s0 (faults_of source out0 trace0)) (outside_of l gave w1 t1 s1 (faults_of source out1 trace1)) k0 k1 report
-kept_summarized {Takes = Takes} {settings = settings} {flight = flight} {config = config} {tracing = tracing} {seed = seed} {s0 = s0} {s1 = s1} {t0 = t0} {t1 = t1} {w0 = w0} {w1 = w1} {trace0 = trace0} {trace1 = trace1} {out0 = out0} {out1 = out1}
-    {k0 = k0} {k1 = k1} {report = report} source takes set none g =
+kept_summarized {settings = settings} {flight = flight} {config = config} {tracing = tracing} {k0 = k0} {k1 = k1} source takes set none g =
     let ended = g.ended in
-    let old = outside_of (Some (generated seed.start seed.rows)) 0 None t0 s0 (faults_of 0 0 trace0) in
-    let mid = outside_of (Some g.left) g.gave None t1 s1 (faults_of 0 0 trace1) in
-    let run : Report = record { status = kept_status ended.ending; high = ended.high } in
-    let line : ended.quiet ≡ false → LineWritten (kept_line ended.ending) None None 0 0 = λ loud. record { cut = Outputs-whole None None (Rises 0 0) (kept_line ended.ending) tt; later = omega arith; empty = λ e. refl } in
-    let head : KeptHeadline settings flight Takes tracing old mid k0 k1 run = kept_headlined settings flight config takes set tracing old mid ended k0 k1 None 0 run refl refl (λ hush. record { written = refl; faults = refl }) line none g.ran in
-    let told = kept_told settings flight config takes set tracing old mid ended k0 k1 None 0 run refl refl (λ hush. record { written = refl; faults = refl }) line none g.ran in
-    record {
-      unread = record { left = refl; gave = refl; source = refl };
-      run = run;
-      left = g.left;
-      gave = g.gave;
-      headline = head;
-      tally = ended.tally;
-      counted = subst (λ (e : KeptEnding). KeptTally e head.answers ended.tally) (sym told.0) told.1;
-      concludes = subst (λ (e : KeptEnding). KeptConcludes e ended.tally s1.asked ended.high w0 w1 (faults_of source out0 trace0) (faults_of source out1 trace1) report) (sym told.0)
-          (concluded_at ended.high g.high
-          (kept_concludes ended.tally s1.asked w0 w1 source trace0 trace1 out0 out1 report ended.ending ended.quiet g.concluded (kept_quiet config flight tracing ended old mid k0 k1 (trace_rose trace0 trace1) g.ran)
-          (kept_calm config flight tracing ended old mid k0 k1 g.ran)));
-    }
+    summarized_by _ _ _ source ended g.left g.gave
+    (kept_headed settings flight config takes set tracing _ _ ended k0 k1 None 0 _ refl refl (λ hush. record { written = refl; faults = refl }) (λ loud. unkept_line ended.ending) none g.ran)
+    g.high g.concluded (kept_quiet config flight tracing _ _ _ k0 k1 (trace_rose _ _) g.ran) (kept_calm config flight tracing _ _ _ k0 k1 g.ran)
+
+-- nothing failed of one that came to its end
+pub whole_cause : (Alone : Type 0) (result : Result Bool Stop) (refused : Bool) (ending : KeptEnding) (old new : Faults) → ending ≡ Plain (Ran result) → ending ≡ Plain (Ran (Ok refused)) → StopCause Alone old new result → new.trace ≡ old.trace
+whole_cause Alone result refused ending old new is whole cause =
+    let same : result ≡ Ok refused = cc (is, whole) in
+    (subst (λ (r : Result Bool Stop). StopCause Alone old new r) same cause).trace
 
 -- ---- the words were not read
 pub unkeyed_words : (error : WordsErr) (taken : List ℕ) → taken ≡ [] → EndsUnkeyed (refused_by error) taken
@@ -180,25 +194,26 @@ pub words_concluded : (error : WordsErr) (tally : Tally) (asked : List Access) (
 words_concluded Words.Usage tally asked w0 w1 f0 f1 status closed = closed
 words_concluded Words.NoMemory tally asked w0 w1 f0 f1 status closed = closed
 
+-- so it ended then
+abbrev pub unread_ended : WordsErr → KeptEnded
+unread_ended error = record { ending = Plain (refused_by error); quiet = false; high = 0; tally = empty_tally }
+
+module _ (Head : (old new : Outside) → Report → Type 0) (ending_of : (old new : Outside) (report : Report) → Head old new report → KeptEnding) (answers_of : (old new : Outside) (report : Report) → Head old new report → List Answer) where
+  pub unread_summarized_by : {seed : Seed} {s : StoreState} {t w0 w1 l : Option (List ℕ)} {gave out0 out1 : ℕ} {report : Report} (source trace : ℕ) (error : WordsErr)
+      (head : Head (outside_of (Some (generated seed.start seed.rows)) 0 None t s (faults_of 0 0 trace)) (outside_of (Some (generated seed.start seed.rows)) 0 None t s (faults_of 0 0 trace)) (record { status = status_of (refused_by error); high = 0 }))
+      → ending_of _ _ _ head ≡ Plain (refused_by error) → answers_of _ _ _ head ≡ [] → report.status ≡ status_of (refused_by error) → report.high ≡ 0 → LineWritten (last_line (refused_by error)) w0 w1 out0 out1
+      → SummarizedBy Head ending_of answers_of seed (outside_of l gave w0 t s (faults_of source out0 trace)) (outside_of l gave w1 t s (faults_of source out1 trace)) report
+  unread_summarized_by {seed = seed} {s = s} {w0 = w0} {w1 = w1} {out0 = out0} {out1 = out1} {report = report} source trace error head ending none status high line =
+      summarized_by Head ending_of answers_of source (unread_ended error) (generated seed.start seed.rows) 0
+      (record { head = head; ending = ending; counted = subst (λ (a : List Answer). KeptTally (Plain (refused_by error)) a empty_tally) (sym none) (words_counted error empty_tally) }) high
+      (words_concluded error empty_tally s.asked w0 w1 out0 out1 report.status (record { told = status; silent = λ loud. absurd (cc loud); line = λ loud. line }))
+      (record { rose = λ loud. absurd (cc loud); kept = λ loud. refl }) (λ refused is. refl)
+
 pub kept_unread_summarized : {Takes : Type 0} {settings : Option Config} {flight : Option FlightSettings} {tracing : Bool} {s : StoreState} {t w0 w1 l : Option (List ℕ)} {gave out0 out1 : ℕ} {k : KeeperState} {report : Report} (source trace : ℕ) (seed : Seed) (error : WordsErr)
     → IsFresh s → (error ≡ Words.Usage → ¬ Takes) → report.status ≡ status_of (refused_by error) → report.high ≡ 0 → LineWritten (last_line (refused_by error)) w0 w1 out0 out1
     → KeptSummarized settings flight Takes tracing seed (outside_of l gave w0 t s (faults_of source out0 trace)) (outside_of l gave w1 t s (faults_of source out1 trace)) k k report
 unfolding kept_unread
-kept_unread_summarized {s = s} {t = t} {w0 = w0} {w1 = w1} {out0 = out0} {out1 = out1} {report = report} source trace seed error blank not status high line =
-    let ending = refused_by error in
-    let closed : KeptClosedBy (Plain ending) false w0 w1 out0 out1 report.status = record { told = status; silent = λ loud. absurd (cc loud); line = λ loud. line } in
-    record {
-      unread = record { left = refl; gave = refl; source = refl };
-      run = record { status = status_of ending; high = 0 };
-      left = generated seed.start seed.rows;
-      gave = 0;
-      headline = kept_unread error blank not refl refl (record { cut = Outputs-whole None None (Rises 0 0) (last_line ending) tt; later = omega arith; empty = λ e. refl });
-      tally = empty_tally;
-      counted = words_counted error empty_tally;
-      concludes = concluded_at 0 high
-          (kept_concludes empty_tally s.asked w0 w1 source trace trace out0 out1 report (Plain ending) false (words_concluded error empty_tally s.asked w0 w1 out0 out1 report.status closed)
-          (record { rose = λ loud. absurd (cc loud); kept = λ loud. refl }) (λ refused is. refl));
-    }
+kept_unread_summarized source trace seed error blank not status high line = unread_summarized_by _ _ _ source trace error (kept_unread error blank not refl refl (unkept_line (Plain (refused_by error)))) refl refl status high line
 
 -- ---- whether tables are kept
 pub may_keep : (settings : Option Config) (flight : Option FlightSettings) (Takes : Type 0) (tracing : Bool) (old new : Outside) (k0 k1 : KeeperState) (report : Report) (keeps on : Bool) (asked seed : Option Seed) → keeps ≡ on → asked ≡ seed

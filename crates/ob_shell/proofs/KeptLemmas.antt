@@ -5,15 +5,17 @@ use Rattle.ob_headline.specs.declared.flight.FlightSettings.{FlightSettings}
 use Rattle.ob_base.specs.Counts.{Rises}
 use Rattle.ob_base.specs.declared.config.Config.{Config}
 use Rattle.ob_base.specs.declared.fault.Failed.{Failed}
-use Rattle.ob_base.specs.declared.mark.Mark.{Mark}
+use Rattle.ob_reopen.specs.declared.mark.Mark.{Mark}
 use Rattle.ob_gen.specs.declared.tally.Tally.{Tally}
 use Rattle.ob_headline.proofs.StopLemmas.{closing_stops, begun_stops}
-use Rattle.ob_headline.specs.Bases.{flying, fresh}
+use Rattle.ob_base.specs.declared.refusal.Stop.{Stop}
+use Rattle.ob_headline.specs.Bases.{Base, flying, fresh}
 use Rattle.ob_headline.specs.Endings.{status_of}
 use Rattle.ob_headline.specs.Headline.{Headline}
 use Rattle.ob_headline.specs.Keeping.{kept_line, kept_status, EndsWith, handed_end}
 use Rattle.ob_headline.specs.KeptHeadline.{EndsBehind, EndsUnkeyed, KeptHeadline, Unkeyed, begun_at}
 use Rattle.ob_headline.specs.KeyLine.{first_line, secret_of}
+use Rattle.ob_headline.specs.Story.{Story}
 use Rattle.ob_headline.specs.Words.{Faults, Outside, SinksRose, keys_in, outside_of, Answer}
 use Rattle.ob_headline.specs.declared.ending.Ending.{Ending}
 use Rattle.ob_headline.specs.declared.ending.Ending.TheVariants.{Ran, Usage, BadKey}
@@ -24,6 +26,7 @@ use Rattle.ob_print.proofs.CutLemmas.{Outputs-whole}
 use Rattle.ob_print.specs.Cuts.{Outputs}
 use Rattle.ob_reopen.specs.Keepers.{KeeperState}
 use Rattle.ob_reopen.specs.declared.fault.CloseErr.{CloseErr}
+use Rattle.ob_seal.specs.KeySet.{KeySet}
 use Rattle.ob_seal.specs.Sealed.{keys_of}
 use Rattle.ob_shell.proofs.CloseLemmas.{words_taken}
 use Rattle.ob_shell.proofs.CompleteLemmas.{reported_line, reported_quiet}
@@ -35,9 +38,9 @@ use Rattle.ob_shell.proofs.TraceLemmas.{traced_none, traced_whole}
 use Rattle.ob_shell.specs.Closed.{LineWritten, Unwritten}
 use Rattle.ob_shell.specs.Engaging.{RanKept, RanStopped, RanUnbegun, RanUnkeyed, RanWhole}
 use Rattle.ob_shell.specs.KeptSummary.{KeptTally}
-use Rattle.ob_shell.specs.Running.{OutFailed, ServesAlone}
+use Rattle.ob_shell.specs.Running.{OutFailed, ServesAlone, Silenced}
 use Rattle.ob_shell.specs.Tallies.{has_refused}
-use Rattle.ob_shell.specs.Top.{EndingWords, Reported, RunShown, sink_of, EndingTally}
+use Rattle.ob_shell.specs.Top.{EndingCause, EndingWords, Reported, RunShown, sink_of, EndingTally}
 use Rattle.ob_shell.specs.Traces.{Traced}
 use Rattle.ob_shell.specs.declared.keeping.KeptEnded.{KeptEnded}
 use Rattle.ob_store.specs.State.{StoreState}
@@ -58,16 +61,14 @@ ends_whole (Ok mark) whole ending f0 f1 k0 k1 refused (inr handed) is = (handed_
 
 -- what is counted of the answers of one that came to its end
 pub counted_by : (ending : KeptEnding) (answers : List Answer) (tally : Tally) → ((refused : Bool) → ending ≡ Plain (Ran (Ok refused)) → KeptTally ending answers tally) → KeptTally ending answers tally
-counted_by (Plain Usage) answers tally count = tt
-counted_by (Plain BadKey) answers tally count = tt
 counted_by (Plain (Ran (Ok refused))) answers tally count = count refused refl
-counted_by (Plain (Ran (Err stop))) answers tally count = tt
-counted_by OtherPack answers tally count = tt
-counted_by Saved answers tally count = tt
-counted_by NoMark answers tally count = tt
-counted_by StoreFault answers tally count = tt
-counted_by LeftOpen answers tally count = tt
-counted_by KeeperFault answers tally count = tt
+counted_by other answers tally count = tt
+
+-- a headline that says how a run ended, and how it was answered, by what was counted then
+pub record HeadTold (H : Type 0) (ending_of : H → KeptEnding) (answers_of : H → List Answer) (ended : KeptEnded) : Type 0 where
+  pub head : H
+  pub ending : ending_of head ≡ ended.ending
+  pub counted : KeptTally ended.ending (answers_of head) ended.tally
 
 module _ {Takes : Type 0} (settings : Option Config) (flight : Option FlightSettings) (config : Config) (takes : Takes) (set : settings ≡ Some config) (tracing : Bool) (old mid : Outside) (ended : KeptEnded) (k0 k1 : KeeperState)
     (w2 : Option (List ℕ)) (out2 : ℕ) (report : Report) (status : report.status ≡ kept_status ended.ending) (high : report.high ≡ ended.high)
@@ -114,8 +115,8 @@ module _ {Takes : Type 0} (settings : Option Config) (flight : Option FlightSett
         kept = ran.kept;
       }
 
-  kept_unkeyed : old.store.asked ≡ [] → RanUnkeyed config flight tracing ended old mid k0 k1 → KeptHeadline settings flight Takes tracing old new k0 k1 report
-  kept_unkeyed none ran = record { ending = ended.ending; status = status; answers = []; ran = inl (unkeyed_run none ran) }
+  pub unkeyed_counted : RanUnkeyed config flight tracing ended old mid k0 k1 → KeptTally ended.ending [] ended.tally
+  unkeyed_counted ran = subst (λ (e : KeptEnding). KeptTally e [] ended.tally) (sym ran.is) (subst (λ (a : List Answer). EndingTally ran.ending a ended.tally) ran.unanswered ran.shown.counted)
 
   -- ---- no statement was served
   kept_unbegun : RanUnbegun config tracing ended old mid k0 k1 → KeptHeadline settings flight Takes tracing old new k0 k1 report
@@ -143,56 +144,56 @@ module _ {Takes : Type 0} (settings : Option Config) (flight : Option FlightSett
     }));
   }
 
+  -- ---- a session from this base on ended so, and this holds of its story, too
+  pub record SessionTold (base : Base) (keys : List ℕ → KeySet) (opened : StoreState) (traced : Option (List ℕ)) (result : Result Bool Stop) (Also : List ℕ → Story → Type 0) (w : Option (List ℕ)) (out : ℕ) : Type 0 where
+    pub r : Reported ended.tally (sink_of tracing traced mid.traced) Takes (flying flight base) keys old.left mid.left mid.gave old.written w opened mid.store old.faults (record mid.faults { out = out }) report
+    pub is : r.ending ≡ Ran result
+    pub also : Also r.shown.taken r.shown.story
+    pub rose : ended.quiet ≡ true → SinksRose old.faults (record mid.faults { out = out })
+
+  abbrev pub Shown : Base → (List ℕ → KeySet) → StoreState → Option (List ℕ) → Result Bool Stop → ℕ → Type 0
+  Shown base keys opened traced result n =
+      RunShown ended.tally (sink_of tracing traced mid.traced) (flying flight base) keys old.left mid.left mid.gave old.written mid.written opened mid.store n (Ran result) [] (OutFailed ended.quiet old.faults.out mid.faults.out)
+
+  module _ (base : Base) (keys : List ℕ → KeySet) (opened : StoreState) (traced : Option (List ℕ)) (result : Result Bool Stop) (Also : List ℕ → Story → Type 0) (shown : Shown base keys opened traced result ended.high) (also : Also shown.taken shown.story)
+      (cause : EndingCause (ServesAlone flight base.public) (Ran result) old.faults mid.faults) (silent : Silenced ended.quiet old.faults mid.faults) (ending : ended.ending ≡ Plain (Ran result)) where
+    at_high : (x : Shown base keys opened traced result report.high) × Also x.taken x.story
+    at_high = subst (λ (n : ℕ). (x : Shown base keys opened traced result n) × Also x.taken x.story) (sym high) (shown, also)
+
+    words : EndingWords (Ran result) Takes
+    words = takes_of (Ran result) (λ not. absurd (cc not)) takes
+
+    is_status : report.status ≡ status_of (Ran result)
+    is_status = status ∙ ap kept_status ending
+
+    told_for : (b : Bool) → ended.quiet ≡ b → SessionTold base keys opened traced result Also w2 out2
+    unfolding reported_line reported_quiet shown_line
+    told_for true is =
+        let rose = silenced_rose ended.quiet old.faults mid.faults silent is in
+        subst (λ (w : Option (List ℕ)). SessionTold base keys opened traced result Also w out2) (sym (hushed is).written)
+        (subst (λ (n : ℕ). SessionTold base keys opened traced result Also mid.written n) (sym (hushed is).faults) (record {
+          r = reported_quiet (Ran result) old.faults mid.faults is_status words at_high.0 (λ lost. lost.1) cause rose;
+          is = refl;
+          also = at_high.1;
+          rose = λ it. rose;
+        }))
+    told_for false is =
+        let l = subst (λ (e : KeptEnding). LineWritten (kept_line e) mid.written w2 mid.faults.out out2) ending (line is) in
+        record {
+          r = reported_line (Ran result) old.faults mid.faults new.faults is_status words at_high.0 (λ lost. absurd (cc (is, lost.0))) cause l.cut (λ rises. rises) l.empty l.later refl refl (silenced_kept ended.quiet old.faults mid.faults silent is);
+          is = refl;
+          also = at_high.1;
+          rose = λ it. absurd (cc (it, is));
+        }
+
+    pub session_told : SessionTold base keys opened traced result Also w2 out2
+    session_told = told_for ended.quiet refl
+
   -- ---- a stop ended the session
-  record StopTold (ran : RanStopped config flight tracing ended old mid k0 k1) (w : Option (List ℕ)) (out : ℕ) : Type 0 where
-    r : Reported ended.tally (sink_of tracing ran.begun.traced mid.traced) Takes (flying flight ran.begun.base) keys_in old.left mid.left mid.gave old.written w ran.begun.opened mid.store old.faults (record mid.faults { out = out }) report
-    ending : r.ending ≡ Ran (Err ran.stop)
-    keyed : secret_of (first_line r.shown.taken) ≡ Some ran.begun.secret
-    rose : ended.quiet ≡ true → SinksRose old.faults (record mid.faults { out = out })
-
-  stop_told : (ran : RanStopped config flight tracing ended old mid k0 k1) → StopTold ran w2 out2
-  unfolding reported_line reported_quiet shown_line
-  stop_told ran = go ended.quiet refl
-    where
-      ending : Ending
-      ending = Ran (Err ran.stop)
-
-      at_high : (x : RunShown ended.tally (sink_of tracing ran.begun.traced mid.traced) (flying flight ran.begun.base) keys_in old.left mid.left mid.gave old.written mid.written ran.begun.opened mid.store report.high (Ran (Err ran.stop)) [] (OutFailed ended.quiet old.faults.out mid.faults.out))
-          × (secret_of (first_line x.taken) ≡ Some ran.begun.secret)
-      at_high = subst
-          (λ (n : ℕ). (x : RunShown ended.tally (sink_of tracing ran.begun.traced mid.traced) (flying flight ran.begun.base) keys_in old.left mid.left mid.gave old.written mid.written ran.begun.opened mid.store n (Ran (Err ran.stop)) [] (OutFailed ended.quiet old.faults.out mid.faults.out))
-          × (secret_of (first_line x.taken) ≡ Some ran.begun.secret)) (sym high) (ran.shown, ran.keyed)
-
-      words : EndingWords (Ran (Err ran.stop)) Takes
-      words = takes_of (Ran (Err ran.stop)) (λ not. absurd (cc not)) takes
-
-      is_status : report.status ≡ status_of (Ran (Err ran.stop))
-      is_status = status ∙ ap kept_status ran.ending
-
-      go : (b : Bool) → ended.quiet ≡ b → StopTold ran w2 out2
-      go true is =
-          let rose = silenced_rose ended.quiet old.faults mid.faults ran.silent is in
-          subst (λ (w : Option (List ℕ)). StopTold ran w out2) (sym (hushed is).written)
-          (subst (λ (n : ℕ). StopTold ran mid.written n) (sym (hushed is).faults) (record {
-            r = reported_quiet (Ran (Err ran.stop)) old.faults mid.faults is_status words at_high.0 (λ lost. lost.1) ran.cause rose;
-            ending = refl;
-            keyed = at_high.1;
-            rose = λ it. rose;
-          }))
-      go false is =
-          let l = subst (λ (e : KeptEnding). LineWritten (kept_line e) mid.written w2 mid.faults.out out2) ran.ending (line is) in
-          record {
-            r = reported_line (Ran (Err ran.stop)) old.faults mid.faults new.faults is_status words at_high.0 (λ lost. absurd (cc (is, lost.0))) ran.cause l.cut (λ rises. rises) l.empty l.later refl refl
-                (silenced_kept ended.quiet old.faults mid.faults ran.silent is);
-            ending = refl;
-            keyed = at_high.1;
-            rose = λ it. absurd (cc (it, is));
-          }
-
   kept_stopped : RanStopped config flight tracing ended old mid k0 k1 → KeptHeadline settings flight Takes tracing old new k0 k1 report
   unfolding headlined
   kept_stopped ran =
-      let told = stop_told ran in
+      let told = session_told ran.begun.base keys_in ran.begun.opened ran.begun.traced (Err ran.stop) (λ taken story. secret_of (first_line taken) ≡ Some ran.begun.secret) ran.shown ran.keyed ran.cause ran.silent ran.ending in
       let begun = begun_at old ran.begun.opened ran.begun.traced in
       let traces : Traced tracing ran.begun.opened.asked mid.store.asked ran.begun.traced mid.traced (SinksRose old.faults new.faults) = traced_by_fault told.rose ran.traced_all in
       let session : Headline (flying flight ran.begun.base) keys_in Takes tracing begun new report = headlined Takes (flying flight ran.begun.base) tracing begun new report ran.begun.first told.r traces in
@@ -213,11 +214,11 @@ module _ {Takes : Type 0} (settings : Option Config) (flight : Option FlightSett
           served = new;
           run = report;
           session = session;
-          keyed = told.keyed;
+          keyed = told.also;
           answered = refl;
           high = refl;
           behind = subst (λ (e : Ending). EndsBehind e (flying flight ran.begun.base) (keys_of ran.begun.secret) tracing session.story begun new new report report ran.begun.in_use k1 ended.ending)
-              (sym told.ending) (record { is = ran.ending; same = refl; reports = refl; kept = ran.kept });
+              (sym told.is) (record { is = ran.ending; same = refl; reports = refl; kept = ran.kept });
         }));
       }
 
@@ -263,24 +264,18 @@ module _ {Takes : Type 0} (settings : Option Config) (flight : Option FlightSett
         }));
       }
 
-  pub kept_headlined : old.store.asked ≡ [] → RanKept config flight tracing ended old mid k0 k1 → KeptHeadline settings flight Takes tracing old new k0 k1 report
-  kept_headlined none (inl ran) = kept_unkeyed none ran
-  kept_headlined none (inr (inl ran)) = kept_unbegun ran
-  kept_headlined none (inr (inr (inl ran))) = kept_stopped ran
-  kept_headlined none (inr (inr (inr ran))) = kept_whole ran
+  pub kept_headed : old.store.asked ≡ [] → RanKept config flight tracing ended old mid k0 k1 → HeadTold (KeptHeadline settings flight Takes tracing old new k0 k1 report) (λ h. h.ending) (λ h. h.answers) ended
+  unfolding kept_unbegun kept_stopped kept_whole
+  kept_headed none (inl ran) = record { head = record { ending = ended.ending; status = status; answers = []; ran = inl (unkeyed_run none ran) }; ending = refl; counted = unkeyed_counted ran }
+  kept_headed none (inr (inl ran)) = record { head = kept_unbegun ran; ending = refl; counted = counted_by ended.ending [] ended.tally (λ refused is. absurd (begun_stops config (keys_of ran.secret) ended.ending _ _ _ _ _ _ refused ran.unserved.begun is)) }
+  kept_headed none (inr (inr (inl ran))) = record { head = kept_stopped ran; ending = refl; counted = counted_by ended.ending (kept_stopped ran).answers ended.tally (λ refused is. absurd (cc (ran.ending, is))) }
+  kept_headed none (inr (inr (inr ran))) = record {
+    head = kept_whole ran;
+    ending = refl;
+    counted = counted_by ended.ending ran.shown.story.answers ended.tally (λ refused is.
+        let came = ends_whole ran.closed.tables.closes.result _ _ _ _ _ _ refused ran.closed.tables.closes.ends is in
+        subst (λ (e : KeptEnding). KeptTally e ran.shown.story.answers ended.tally) (sym came.0) (ran.closed.counted came.0 ∙ ran.shown.counted));
+  }
 
-  -- what was counted of its answers
-  pub kept_told : (none : old.store.asked ≡ []) (ran : RanKept config flight tracing ended old mid k0 k1) → ((kept_headlined none ran).ending ≡ ended.ending) × KeptTally ended.ending (kept_headlined none ran).answers ended.tally
-  unfolding kept_headlined kept_unkeyed kept_unbegun kept_stopped kept_whole
-  kept_told none (inl ran) = (
-    refl,
-    subst (λ (e : KeptEnding). KeptTally e [] ended.tally) (sym ran.is) (subst (λ (a : List Answer). EndingTally ran.ending a ended.tally) ran.unanswered ran.shown.counted),
-  )
-  kept_told none (inr (inl ran)) = (refl, counted_by ended.ending [] ended.tally (λ refused is. absurd (begun_stops config (keys_of ran.secret) ended.ending _ _ _ _ _ _ refused ran.unserved.begun is)))
-  kept_told none (inr (inr (inl ran))) = (refl, counted_by ended.ending (kept_stopped ran).answers ended.tally (λ refused is. absurd (cc (ran.ending, is))))
-  kept_told none (inr (inr (inr ran))) = (refl, counted_by ended.ending ran.shown.story.answers ended.tally (λ refused is. counts_whole ran refused is))
-    where
-      counts_whole : (ran : RanWhole config flight tracing ended old mid k0 k1) (refused : Bool) → ended.ending ≡ Plain (Ran (Ok refused)) → KeptTally ended.ending ran.shown.story.answers ended.tally
-      counts_whole ran refused is =
-          let came = ends_whole ran.closed.tables.closes.result _ _ _ _ _ _ refused ran.closed.tables.closes.ends is in
-          subst (λ (e : KeptEnding). KeptTally e ran.shown.story.answers ended.tally) (sym came.0) (ran.closed.counted came.0 ∙ ran.shown.counted)
+  pub kept_headlined : old.store.asked ≡ [] → RanKept config flight tracing ended old mid k0 k1 → KeptHeadline settings flight Takes tracing old new k0 k1 report
+  kept_headlined none ran = (kept_headed none ran).head

@@ -1,7 +1,7 @@
 -- What rests for the mark that a run begins with which has no tables.
 use Rattle.std.proofs.Common.{◌<◌, ℕ, List, [], Option, refl}
 use Rattle.ob_base.specs.declared.config.Public.{Public}
-use Rattle.ob_base.specs.declared.mark.Mark.{Mark}
+use Rattle.ob_reopen.specs.declared.mark.Mark.{Mark}
 use Rattle.ob_headline.specs.Saving.{RestsAt}
 use Rattle.ob_shell.specs.Leaving.{RestsOn}
 use Rattle.ob_store.specs.State.{KeptRegion}

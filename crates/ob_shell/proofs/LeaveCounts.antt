@@ -20,11 +20,7 @@ use Rattle.ob_vault.specs.State.{RevState, World}
 -- a stop is that of the session
 stop_counts : (run : RunStop) (old new : KeeperState) → CountsRun (Err run) old new → CountsKeeper (Ran (Err (session_stop run))) old new
 stop_counts (Tampered q x) old new counts = counts
-stop_counts SinkFault old new counts = counts
-stop_counts NoMemory old new counts = counts
-stop_counts StoreFault old new counts = counts
-stop_counts StashFull old new counts = counts
-stop_counts KeeperFault old new counts = counts
+stop_counts other old new counts = counts
 
 -- a stop by memory or by a sink leaves the count
 memory_counts : (run : RunStop) (old new : KeeperState) → run ≡ NoMemory → new.faults ≡ old.faults → CountsKeeper (Ran (Err (session_stop run))) old new
@@ -35,24 +31,13 @@ sink_counts run old new is same = subst (λ (r : RunStop). CountsKeeper (Ran (Er
 
 -- nor does a stop of a flight, which no keeper stops
 flight_counts : (a b : World) (run : RunStop) (old new : KeeperState) → FlightCause {T = Unit {0}} (Err run) a b → new.faults ≡ old.faults → CountsKeeper (Ran (Err (session_stop run))) old new
-flight_counts a b (Tampered q x) old new cause same = same
-flight_counts a b SinkFault old new cause same = same
-flight_counts a b NoMemory old new cause same = same
-flight_counts a b StoreFault old new cause same = same
-flight_counts a b StashFull old new cause same = same
 flight_counts a b KeeperFault old new cause same = absurd cause
+flight_counts a b other old new cause same = same
 
 -- while the count stays, nothing changes of that
 counts_on : (result : Result Bool Stop) (a b c : KeeperState) → b.faults ≡ a.faults → CountsKeeper (Ran result) b c → CountsKeeper (Ran result) a c
-counts_on (Ok flag) a b c same counts = counts ∙ same
-counts_on (Err (Stops.Tampered q x)) a b c same counts = counts ∙ same
-counts_on (Err Stops.SourceFault) a b c same counts = counts ∙ same
-counts_on (Err Stops.SinkFault) a b c same counts = counts ∙ same
-counts_on (Err Stops.NoMemory) a b c same counts = counts ∙ same
-counts_on (Err Stops.InputLimit) a b c same counts = counts ∙ same
-counts_on (Err Stops.StoreFault) a b c same counts = counts ∙ same
-counts_on (Err Stops.StashFull) a b c same counts = counts ∙ same
 counts_on (Err Stops.KeeperFault) a b c same counts = subst (λ (n : ℕ). Rises n c.faults) same counts
+counts_on other a b c same counts = counts ∙ same
 
 module _ {R : Type 0} (state : R → RevState) where
   unmoved : (m0 m1 : Machine R) → m1 ≡ m0 → m1.keeper.faults ≡ m0.keeper.faults

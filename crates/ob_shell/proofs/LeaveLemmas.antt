@@ -3,7 +3,7 @@ use Rattle.std.specs.Prelude.{◌≢◌, drop, if◌then◌else◌, map, take}
 use Rattle.std.proofs.Common.{◌≡◌, inl, inr, ◌⊎◌, ◌<◌, ◌+◌, ℕ, Bool, true, false, IsTrue, List, [], ◌∷◌, ◌++◌, length, Option, Some, None, Ok, Err, refl, sym, ◌∙◌, ap, subst, arith}
 use Rattle.std.proofs.lemmas.List.{length-append, length-map, take-append-drop}
 use Rattle.ob_base.specs.declared.config.Public.{Public}
-use Rattle.ob_base.specs.declared.mark.Mark.{Mark}
+use Rattle.ob_reopen.specs.declared.mark.Mark.{Mark}
 use Rattle.ob_base.specs.declared.refusal.Stop.TheVariants as Stops
 use Rattle.ob_base.specs.declared.seen.Seen.{Seen}
 use Rattle.ob_headline.proofs.EffectLemmas.{left_refused, left_served}
@@ -23,7 +23,6 @@ use Rattle.ob_mean.specs.Replay.{Broken, How, Session, Spelt, after, draws_taken
 use Rattle.ob_mean.specs.Verdict.{Draws, Tables}
 use Rattle.ob_reopen.specs.Keepers.{KeeperState}
 use Rattle.ob_seal.specs.KeySet.{KeySet, pair_of}
-use Rattle.ob_seal.specs.Sealed.{AreOfSecret}
 use Rattle.ob_shell.proofs.FlightFacts.{drop_more}
 use Rattle.ob_shell.proofs.FlightLeaves.{left_first}
 use Rattle.ob_shell.proofs.LeavePath.{Along, BeginsSeats, EndsAlong, HaveFlown, HaveLanded, IsLast, IsSeatOf, IsStopped, IsWith, Path, StandsSo, aloft_along, aloft_so, answered_along, answered_so, ended_along, ends_so, over_along, over_so, passed_along, passed_so, together_along, together_so}
@@ -31,7 +30,7 @@ use Rattle.ob_shell.proofs.LeaveSteps.{HoldsMark, Saves, mark_answered, mark_sti
 use Rattle.ob_shell.proofs.LeaveTables.{Resting, last_answered, last_stopped, none_earlier, rests_then}
 use Rattle.ob_shell.proofs.ReplayLemmas.{free_holds, holds_free}
 use Rattle.ob_shell.proofs.WalkEntries.{seats_at}
-use Rattle.ob_shell.specs.Leaving.{BeginsToSave, RestsOn}
+use Rattle.ob_shell.specs.Leaving.{AreByRegion, BeginsToSave, RestsOn}
 use Rattle.ob_shell.specs.Steps.{GoTogether, Holds, Machine, Owed, StaysAs, TakesOwed, asked_of, draws_behind, has_failed, session_of, standing, statements_of, tables_behind}
 use Rattle.ob_sql.specs.Skeleton.{skeleton}
 use Rattle.ob_sql.specs.declared.stmt.Stmt.{Stmt}
@@ -80,33 +79,33 @@ module _ {R : Type 0} (state : R → RevState) (ending : Ending) (m2 : Machine R
       keyed = landed.keys ∙ old.keyed;
     }
 
-    mark_flown : (held : Mark) (m0 m1 : Machine R) → HaveFlown state m0 m1 → HoldsMark state salt base keys held m0 → HoldsMark state salt base keys held m1
-    mark_flown held m0 m1 flown holds = record { mark = holds.mark; is = ap (λ (k : KeeperState). k.held) flown.keeper ∙ holds.is; which = holds.which }
+    mark_flown : (secret : List ℕ) (held : Mark) (m0 m1 : Machine R) → HaveFlown state m0 m1 → HoldsMark state secret salt base keys held m0 → HoldsMark state secret salt base keys held m1
+    mark_flown secret held m0 m1 flown holds = record { mark = holds.mark; is = ap (λ (k : KeeperState). k.held) flown.keeper ∙ holds.is; which = holds.which }
 
     -- the mark is one of the run's own, or the one that was held
-    module _ (held : Mark) (salted : (q : ℕ) → base.start.region < q → (pair_of keys q).salt ≡ Some salt) where
-      mark_last : (m0 : Machine R) (x : Spelt) → Saves state salt base keys m0 → HoldsMark state salt base keys held m0 → EndsAlong state ending m0 m2 x → HoldsMark state salt base keys held m2
-      mark_last m0 (Err at) old holds passed = mark_still state salt base keys held m0 m2 passed.same holds
-      mark_last m0 (Ok stmt) old holds (inl stop) = mark_stopped state salt base keys held salted m0 m2 stmt old stop.run stop.does holds
+    module _ (secret : List ℕ) (of : AreByRegion secret keys) (held : Mark) (salted : (q : ℕ) → base.start.region < q → (pair_of keys q).salt ≡ Some salt) where
+      mark_last : (m0 : Machine R) (x : Spelt) → Saves state salt base keys m0 → HoldsMark state secret salt base keys held m0 → EndsAlong state ending m0 m2 x → HoldsMark state secret salt base keys held m2
+      mark_last m0 (Err at) old holds passed = mark_still state secret salt base keys held m0 m2 passed.same holds
+      mark_last m0 (Ok stmt) old holds (inl stop) = mark_stopped state secret salt base keys of held salted m0 m2 stmt old stop.run stop.does holds
       mark_last m0 (Ok stmt) old holds (inr last) = elim last.done [
-        | inl done ↦ mark_answered state salt base keys held salted m0 m2 stmt old last.outcome done.does holds
-        | inr with ↦ mark_still state salt base keys held m0 m2 with.same holds
+        | inl done ↦ mark_answered state secret salt base keys of held salted m0 m2 stmt old last.outcome done.does holds
+        | inr with ↦ mark_still state secret salt base keys held m0 m2 with.same holds
       ]
 
-      mark_along : (m0 : Machine R) (spelt : List Spelt) (answers : List Answer) → Saves state salt base keys m0 → HoldsMark state salt base keys held m0 → Along state ending m0 m2 spelt answers → HoldsMark state salt base keys held m2
-      mark_along m0 spelt answers old holds (over_along over) = subst (HoldsMark state salt base keys held) (sym over.same) holds
+      mark_along : (m0 : Machine R) (spelt : List Spelt) (answers : List Answer) → Saves state salt base keys m0 → HoldsMark state secret salt base keys held m0 → Along state ending m0 m2 spelt answers → HoldsMark state secret salt base keys held m2
+      mark_along m0 spelt answers old holds (over_along over) = subst (HoldsMark state secret salt base keys held) (sym over.same) holds
       mark_along m0 spelt answers old holds (ended_along {x = x} last) = mark_last m0 x old holds last
-      mark_along m0 spelt answers old holds (aloft_along flown) = mark_flown held m0 m2 flown holds
+      mark_along m0 spelt answers old holds (aloft_along flown) = mark_flown secret held m0 m2 flown holds
       mark_along m0 spelt answers old holds (passed_along {m1 = m1} {spelt = behind} {answers = given} passed along) =
-          mark_along m1 behind given (saves_still state salt base keys m0 m1 passed.same old) (mark_still state salt base keys held m0 m1 passed.same holds) along
+          mark_along m1 behind given (saves_still state salt base keys m0 m1 passed.same old) (mark_still state secret salt base keys held m0 m1 passed.same holds) along
       mark_along m0 spelt answers old holds (answered_along {m1 = m1} {stmt = stmt} {one = one} {spelt = behind} {answers = given} (inl done) along) =
-          mark_along m1 behind given (saves_on state salt base keys m0 m1 stmt one.outcome done.does old) (mark_answered state salt base keys held salted m0 m1 stmt old one.outcome done.does holds) along
+          mark_along m1 behind given (saves_on state salt base keys m0 m1 stmt one.outcome done.does old) (mark_answered state secret salt base keys of held salted m0 m1 stmt old one.outcome done.does holds) along
       mark_along m0 spelt answers old holds (answered_along {m1 = m1} {spelt = behind} {answers = given} (inr with) along) =
-          mark_along m1 behind given (saves_still state salt base keys m0 m1 with.same old) (mark_still state salt base keys held m0 m1 with.same holds) along
+          mark_along m1 behind given (saves_still state salt base keys m0 m1 with.same old) (mark_still state secret salt base keys held m0 m1 with.same holds) along
       mark_along m0 spelt answers old holds (together_along {m1 = m1} flown {more = behind} up {answers = given} landed along) =
-          mark_along m1 behind given (saves_landed m0 m1 landed old) (mark_flown held m0 m1 landed.flown holds) along
+          mark_along m1 behind given (saves_landed m0 m1 landed old) (mark_flown secret held m0 m1 landed.flown holds) along
 
-    module _ (secret : List ℕ) (of : AreOfSecret secret keys) (none : m2.store.lie ≡ None) where
+    module _ (secret : List ℕ) (of : AreByRegion secret keys) (none : m2.store.lie ≡ None) where
       -- the statements that took effect with the one begun
       abbrev pub behind : List Stmt
       behind = statements_of m2.owed
@@ -390,9 +389,9 @@ module _ {R : Type 0} (state : R → RevState) (secret salt : List ℕ) (base : 
   saves0 = record { agrees = begins.agrees; saves = begins.saves; pack = ap (λ (p : Public). p.pack) begins.public; most = ap batch_most begins.public; start = begins.start; keyed = begins.keyed }
 
   module _ (held : Mark) (is : m0.keeper.held ≡ Some held) where
-    holds2 : HoldsMark state salt base keys held m2
+    holds2 : HoldsMark state secret salt base keys held m2
     holds2 =
-        mark_along state ending m2 salt base keys held begins.salted m0 story.spelt story.answers saves0
+        mark_along state ending m2 salt base keys secret begins.of held begins.salted m0 story.spelt story.answers saves0
         (record { mark = held; is = is; which = inl refl }) along
 
     rests_behind : IsHonest m0.store m2.store → (tables : Tables) → Represents state m0.engine m0.store tables → RestsOn secret held base.public m0.store.kept tables

@@ -4,7 +4,7 @@ use Rattle.std.specs.Prelude.{if◌then◌else◌, is_some}
 use Rattle.ob_base.specs.Refusals.{is_store_fault}
 use Rattle.ob_base.specs.Stored.{AreApart, headings}
 use Rattle.ob_base.specs.declared.config.Public.{Public}
-use Rattle.ob_base.specs.declared.mark.Mark.{Mark}
+use Rattle.ob_reopen.specs.declared.mark.Mark.{Mark}
 use Rattle.ob_base.specs.declared.refusal.Refusal.{Refusal}
 use Rattle.ob_base.specs.declared.refusal.Refusal.TheVariants as Refusals
 use Rattle.ob_base.specs.declared.schema.Table.{Table}
@@ -35,8 +35,9 @@ use Rattle.ob_script.specs.Saved.{saved_public}
 use Rattle.ob_script.specs.Script.{changes_tables}
 use Rattle.ob_script.specs.Tables.{tables_after, tables_then}
 use Rattle.ob_seal.specs.KeySet.{KeySet, pair_of}
-use Rattle.ob_seal.specs.Sealed.{AreOfSecret}
-use Rattle.ob_shell.specs.Leaving.{IsRead, RestsOn}
+use Rattle.ob_seal.specs.Sealed.{AreOfSecret, check_of}
+use Rattle.ob_seal.specs.declared.pairs.Pair.{Pair}
+use Rattle.ob_shell.specs.Leaving.{AreByRegion, IsRead, RestsOn}
 use Rattle.ob_shell.specs.Steps.{Does, Machine, StaysAs, statements_of}
 use Rattle.ob_sql.specs.Skeleton.{skeleton}
 use Rattle.ob_sql.specs.declared.stmt.Stmt.{Stmt}
@@ -61,62 +62,20 @@ use Rattle.ob_verdict.specs.declared.outcome.Outcome.TheVariants.{Created, Inser
 -- ---- how an answer ends
 refused_whole : (r : Refusal) (n : ℕ) → refused_end r n ≡ Whole → is_store_fault r ≡ false
 refused_whole Refusals.StoreFault n is = absurd (cc is)
-refused_whole (Refusals.Syntax at) n is = refl
-refused_whole Refusals.NoTable n is = refl
-refused_whole Refusals.NameTaken n is = refl
-refused_whole Refusals.NoColumn n is = refl
-refused_whole Refusals.WrongType n is = refl
-refused_whole Refusals.ValueRange n is = refl
-refused_whole Refusals.Limit n is = refl
-refused_whole Refusals.KeyRule n is = refl
-refused_whole Refusals.JoinKey n is = refl
-refused_whole Refusals.Duplicate n is = refl
-refused_whole Refusals.Full n is = refl
-refused_whole Refusals.TooManyGroups n is = refl
-refused_whole Refusals.NotConsecutive n is = refl
-refused_whole (Refusals.Overflow i) n is = refl
-refused_whole Refusals.PadPassed n is = refl
-refused_whole Refusals.KeyRange n is = refl
-refused_whole Refusals.NeedsKey n is = refl
+refused_whole other n is = refl
 
 pub whole_own : (o : Outcome) (n : ℕ) → outcome_end o n ≡ Whole → is_fault o ≡ false
 whole_own (Refused r) n is = refused_whole r n is
-whole_own Created n is = refl
-whole_own Inserted n is = refl
-whole_own (Changed k) n is = refl
-whole_own (Deleted k) n is = refl
-whole_own Dropped n is = refl
-whole_own (Rows k) n is = refl
+whole_own other n is = refl
 
 -- one that the store didn't fail is cut off nowhere
 refused_uncut : (r : Refusal) (n k : ℕ) → is_store_fault r ≡ false → refused_end r n ≡ Cut k → ⊥
 refused_uncut Refusals.StoreFault n k own is = cc own
-refused_uncut (Refusals.Syntax at) n k own is = cc is
-refused_uncut Refusals.NoTable n k own is = cc is
-refused_uncut Refusals.NameTaken n k own is = cc is
-refused_uncut Refusals.NoColumn n k own is = cc is
-refused_uncut Refusals.WrongType n k own is = cc is
-refused_uncut Refusals.ValueRange n k own is = cc is
-refused_uncut Refusals.Limit n k own is = cc is
-refused_uncut Refusals.KeyRule n k own is = cc is
-refused_uncut Refusals.JoinKey n k own is = cc is
-refused_uncut Refusals.Duplicate n k own is = cc is
-refused_uncut Refusals.Full n k own is = cc is
-refused_uncut Refusals.TooManyGroups n k own is = cc is
-refused_uncut Refusals.NotConsecutive n k own is = cc is
-refused_uncut (Refusals.Overflow i) n k own is = cc is
-refused_uncut Refusals.PadPassed n k own is = cc is
-refused_uncut Refusals.KeyRange n k own is = cc is
-refused_uncut Refusals.NeedsKey n k own is = cc is
+refused_uncut other n k own is = cc is
 
 pub uncut : (o : Outcome) (n k : ℕ) → is_fault o ≡ false → outcome_end o n ≡ Cut k → ⊥
 uncut (Refused r) n k own is = refused_uncut r n k own is
-uncut Created n k own is = cc is
-uncut Inserted n k own is = cc is
-uncut (Changed j) n k own is = cc is
-uncut (Deleted j) n k own is = cc is
-uncut Dropped n k own is = cc is
-uncut (Rows j) n k own is = cc is
+uncut other n k own is = cc is
 
 -- ---- a statement behind which tables aren't saved leaves them
 followed_same : (o : Option Refusal) (ts : Tables) → followed o ts ts ≡ ts
@@ -157,20 +116,13 @@ unsaved_same CutWith s stmt saves flat apart not = refl
 
 -- so does what is public
 after_same : (p : Public) (sk : Skeleton) → p.save ≡ true → is_saved_behind p sk Whole ≡ false → tables_after p sk ≡ p.tables
-after_same p (Skeletons.Create table cs n shape) saves not = absurd (cc (saves, not))
-after_same p (Skeletons.Insert table cs) saves not = absurd (cc (saves, not))
-after_same p (Skeletons.Update table cs) saves not = absurd (cc (saves, not))
-after_same p (Skeletons.Delete table) saves not = absurd (cc (saves, not))
-after_same p (Skeletons.Drop table) saves not = absurd (cc (saves, not))
 after_same p (Skeletons.Rows source cs) saves not = refl
 after_same p (Skeletons.Groups table cs key) saves not = refl
+after_same p other saves not = absurd (cc (saves, not))
 
 pub then_same : (p : Public) (sk : Skeleton) (end : End) → p.save ≡ true → is_saved_behind p sk end ≡ false → tables_then p sk end ≡ p.tables
-then_same p sk Static saves not = refl
 then_same p sk Whole saves not = after_same p sk saves not
-then_same p sk AfterCount saves not = refl
-then_same p sk Joined saves not = refl
-then_same p sk (Cut n) saves not = refl
+then_same p sk other saves not = refl
 
 -- ---- what rests while nothing that is read of it changes
 module _ (secret : List ℕ) (mark : Mark) (tables : Tables) where
@@ -208,11 +160,15 @@ apart_held state e s agrees tables held = subst AreApart (sym (held_headings _ _
 -- ---- the mark of a closing that was written, and what rests for it
 module _ {R : Type 0} (state : R → RevState) (e : Engine R) (s t : StoreState) (keeper : KeeperState) (holds : HoldsSaved state e s t keeper) (agrees : Agrees state e s) where
   abbrev pub own_mark : Mark
-  own_mark = saved_mark (next_closing e s) holds.salt
+  own_mark = saved_mark (next_closing e s) holds.salt (pair_of (engine_keys e) (next_closing e s).region).check
 
-  pub saves_as : (salt : List ℕ) (base : Base) (keys : KeySet) → engine_keys e ≡ keys → engine_start e ≡ base.start → (public_of e).pack ≡ base.public.pack
-      → ((q : ℕ) → base.start.region < q → (pair_of keys q).salt ≡ Some salt) → SavesAs salt base own_mark
-  saves_as salt base keys keyed start pack salted =
+  -- its check value is that of the secret for its salt
+  checked : (secret : List ℕ) → AreOfSecret secret (engine_keys e) → (pair_of (engine_keys e) (next_closing e s).region).check ≡ check_of secret (Some holds.salt)
+  checked secret of = ap (λ (p : Pair). p.check) (of (next_closing e s).region) ∙ ap (check_of secret) holds.of
+
+  pub saves_as : (secret salt : List ℕ) (base : Base) (keys : KeySet) → AreOfSecret secret keys → engine_keys e ≡ keys → engine_start e ≡ base.start → (public_of e).pack ≡ base.public.pack
+      → ((q : ℕ) → base.start.region < q → (pair_of keys q).salt ≡ Some salt) → SavesAs secret salt base own_mark
+  saves_as secret salt base keys of keyed start pack salted =
       let next_is = agrees.next in
       let tied = agrees.ready.tied.next in
       let from = ap (λ (x : Start). x.region) start in
@@ -223,20 +179,20 @@ module _ {R : Type 0} (state : R → RevState) (e : Engine R) (s t : StoreState)
       let same : holds.salt ≡ salt = cc (its, ours) in
       record {
         closing = next_closing e s;
-        is = ap (saved_mark (next_closing e s)) same;
+        is = ap (saved_mark (next_closing e s) holds.salt) (checked secret (subst (AreOfSecret secret) (sym keyed) of)) ∙ ap (λ (x : List ℕ). saved_mark (next_closing e s) x (check_of secret (Some x))) same;
         pack = pack;
         region = above;
         number = omega (arith, since);
       }
 
-  pub rests_saved : (secret : List ℕ) → AreOfSecret secret (engine_keys e) → IsTrue s.tells → (tables : Tables) → Represents state e s tables
+  pub rests_saved : (secret : List ℕ) → AreByRegion secret (engine_keys e) → IsTrue s.tells → (tables : Tables) → Represents state e s tables
       → RestsOn secret own_mark (saved_public (public_of e)) t.kept tables
   rests_saved secret of tells tables held = record {
     region = (public_of e).next_region;
     below = omega (arith);
     rests = λ now at. record {
       resting = by_name tables;
-      rests = record { keys = engine_keys e; of = of; own = sym holds.of; rests = (holds.rests tells tables held).rests now at };
+      rests = (checked secret of.of, record { keys = engine_keys e; of = of.of; own = sym holds.of; rests = (holds.rests tells tables held).rests now at; ones = λ q needed. of.ones q });
       alike = alike_turned tables (by_name tables) (named_alike tables (apart_held state e s agrees tables held));
     };
   }
@@ -265,16 +221,18 @@ module _ {R : Type 0} (state : R → RevState) (salt : List ℕ) (base : Base) (
   pub saves_still : (m0 m1 : Machine R) → StaysAs m0 m1 → Saves m0 → Saves m1
   saves_still m0 m1 same old = subst Saves (sym same) (record { agrees = old.agrees; saves = old.saves; pack = old.pack; most = old.most; start = old.start; keyed = old.keyed })
 
+-- and which mark its keeper holds
+module _ {R : Type 0} (state : R → RevState) (secret salt : List ℕ) (base : Base) (keys : KeySet) where
   -- the mark that is held is this one, or one of the run's own
   pub record HoldsMark (held : Mark) (m : Machine R) : Type 0 where
     pub mark : Mark
     pub is : m.keeper.held ≡ Some mark
-    pub which : (mark ≡ held) ⊎ SavesAs salt base mark
+    pub which : (mark ≡ held) ⊎ SavesAs secret salt base mark
 
   pub mark_still : (held : Mark) (m0 m1 : Machine R) → StaysAs m0 m1 → HoldsMark held m0 → HoldsMark held m1
   mark_still held m0 m1 same holds = record { mark = holds.mark; is = ap (λ (m : Machine R). m.keeper.held) same ∙ holds.is; which = holds.which }
 
-  module _ (held : Mark) (salted : (q : ℕ) → base.start.region < q → (pair_of keys q).salt ≡ Some salt) (m0 m1 : Machine R) (stmt : Stmt) (old : Saves m0) where
+  module _ (of : AreByRegion secret keys) (held : Mark) (salted : (q : ℕ) → base.start.region < q → (pair_of keys q).salt ≡ Some salt) (m0 m1 : Machine R) (stmt : Stmt) (old : Saves state salt base keys m0) where
     mark_same : m1.keeper ≡ m0.keeper → HoldsMark held m0 → HoldsMark held m1
     mark_same same holds = record { mark = holds.mark; is = ap (λ (k : KeeperState). k.held) same ∙ holds.is; which = holds.which }
 
@@ -283,7 +241,7 @@ module _ {R : Type 0} (state : R → RevState) (salt : List ℕ) (base : Base) (
     mark_new result was holds = record {
       mark = own_mark state was.engine was.store m1.store m1.keeper holds was.ran.goes_on.agrees;
       is = holds.is;
-      which = inr (saves_as state was.engine was.store m1.store m1.keeper holds was.ran.goes_on.agrees salt base keys (was.ran.keys ∙ old.keyed) (was.ran.start ∙ old.start)
+      which = inr (saves_as state was.engine was.store m1.store m1.keeper holds was.ran.goes_on.agrees secret salt base keys of.of (was.ran.keys ∙ old.keyed) (was.ran.start ∙ old.start)
           (ap (λ (p : Public). p.pack) was.ran.goes_on.public ∙ old.pack) salted);
     }
 

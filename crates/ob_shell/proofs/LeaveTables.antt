@@ -3,7 +3,7 @@ use Rattle.std.proofs.Common.{◌≡◌, inl, inr, ◌<◌, ◌&&◌, ℕ, Bool,
 use Rattle.std.specs.Prelude.{if◌then◌else◌}
 use Rattle.ob_base.specs.Stored.{headings}
 use Rattle.ob_base.specs.declared.config.Public.{Public}
-use Rattle.ob_base.specs.declared.mark.Mark.{Mark}
+use Rattle.ob_reopen.specs.declared.mark.Mark.{Mark}
 use Rattle.ob_base.specs.declared.refusal.Stop.TheVariants as Stops
 use Rattle.ob_base.specs.declared.seen.Seen.{Seen}
 use Rattle.ob_base.specs.declared.skeleton.Skeleton.{Skeleton}
@@ -26,9 +26,8 @@ use Rattle.ob_mean.specs.Verdict.{Draws, Tables}
 use Rattle.ob_reopen.specs.Keepers.{KeeperState}
 use Rattle.ob_script.specs.Saved.{saved_public}
 use Rattle.ob_seal.specs.KeySet.{KeySet}
-use Rattle.ob_seal.specs.Sealed.{AreOfSecret}
 use Rattle.ob_shell.proofs.LeaveSteps.{Saves, own_mark, read_below, rests_now, rests_past, rests_saved, rests_stay, then_same, uncut, unsaved_same, whole_own}
-use Rattle.ob_shell.specs.Leaving.{RestsOn}
+use Rattle.ob_shell.specs.Leaving.{AreByRegion, RestsOn}
 use Rattle.ob_shell.proofs.LeavePath.{IsDone}
 use Rattle.ob_shell.proofs.EndLemmas.{end_apart}
 use Rattle.ob_shell.specs.Steps.{Does, Machine, Owed, Owes, asked_of, draws_behind, session_of, statements_of, tables_behind}
@@ -61,7 +60,7 @@ own_of : (failed : Bool) (cut whole : Type 0) → failed ≡ false → by_fault 
 own_of true cut whole own is = absurd (cc own)
 own_of false cut whole own is = is
 
-module _ {R : Type 0} (state : R → RevState) (secret salt : List ℕ) (base : Base) (keys : KeySet) (of : AreOfSecret secret keys) where
+module _ {R : Type 0} (state : R → RevState) (secret salt : List ℕ) (base : Base) (keys : KeySet) (of : AreByRegion secret keys) where
   -- for the mark that is held these tables rest
   pub record Resting (m : Machine R) (tables : Tables) : Type 0 where
     pub mark : Mark
@@ -113,7 +112,7 @@ module _ {R : Type 0} (state : R → RevState) (secret salt : List ℕ) (base : 
 
       rests_new : (holds : HoldsSaved state was.engine was.store m1.store m1.keeper) → RestsOn secret (its_mark holds) (saved_public (public_of was.engine)) m1.store.kept all_behind
       rests_new holds =
-          rests_saved state was.engine was.store m1.store m1.keeper holds was.ran.goes_on.agrees secret (subst (AreOfSecret secret) (sym (was.ran.keys ∙ old.keyed)) of)
+          rests_saved state was.engine was.store m1.store m1.keeper holds was.ran.goes_on.agrees secret (subst (AreByRegion secret) (sym (was.ran.keys ∙ old.keyed)) of)
           (subst (λ (b : Bool). IsTrue b) (sym was.ran.later.tells) tells) all_behind meant_mid.held
 
     -- ---- it was answered
@@ -268,9 +267,7 @@ module _ {R : Type 0} (state : R → RevState) (secret salt : List ℕ) (base : 
           is = holds.is;
           resting = rests_now secret (its_mark (Err run) was holds) all_behind (saved_public (public_of was.engine)) m1.store.kept (rests_new (Err run) was holds);
         }
-        last_new was holds SinkFault is cause = absurd cause
-        last_new was holds StashFull is cause = absurd cause
-        last_new was holds (Tampered q x) is cause = absurd cause
+        last_new was holds other is cause = absurd cause
 
         pub last_stopped : RestsLast ending
         last_stopped = elim does.keeper [

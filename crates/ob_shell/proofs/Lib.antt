@@ -90,4 +90,8 @@ pub mod SweepLemmas
 pub mod SavedBegin
 pub mod SavedRunLemmas
 pub mod SavedHeadLemmas
+pub mod SaltedRunLemmas
+pub mod SaltedHeadLemmas
+pub mod SaltedGenLemmas
 pub mod SavedGenLemmas
+pub mod ServerLemmas

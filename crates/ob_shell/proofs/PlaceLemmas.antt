@@ -54,13 +54,8 @@ none_free settings p = λ outline. record { batch = refl; flown = place_zero (mo
 -- it might have flown: then any comes free behind it that doesn't go along with it
 pub same_fly : (p q : Public) (outline : Skeleton) → q.tables ≡ p.tables → may_fly q outline ≡ may_fly p outline
 same_fly p q (Rows (OneTable table) columns) same = ap (λ (t : List Table). not (is_index (headings_of t) table)) same
-same_fly p q (Rows (Join left right on equals) columns) same = refl
 same_fly p q (Groups table columns key) same = ap (λ (t : List Table). not (is_index (headings_of t) table)) same
-same_fly p q (CreateSkeleton table columns n shape) same = refl
-same_fly p q (InsertSkeleton table columns) same = refl
-same_fly p q (UpdateSkeleton table columns) same = refl
-same_fly p q (DeleteSkeleton table) same = refl
-same_fly p q (DropSkeleton table) same = refl
+same_fly p q other same = refl
 
 pub single_closed : (settings : Option FlightSettings) (p0 p1 : Public) (stmt : Stmt) (g : Gathered) → may_fly p0 (skeleton stmt) ≡ true → p1.tables ≡ p0.tables → most_flown settings p1 ≡ most_flown settings p0 → IsClosed settings p0 p1 (stmt ∷ []) g (gathered_by p0 (skeleton stmt))
 single_closed settings p0 p1 stmt g flies tables same = λ outline apart. record {

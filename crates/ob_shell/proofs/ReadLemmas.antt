@@ -66,12 +66,7 @@ ends_untaken f2 passed p b pending Stops.InputLimit bytes is why =
       refl,
       inl (rw (is, rest_of-append, rest, rest_of-over (rest_after p b) f2.unread why.1) why.1),
     )
-ends_untaken f2 passed p b pending Stops.SourceFault bytes is why = absurd why
-ends_untaken f2 passed p b pending Stops.SinkFault bytes is why = absurd why
-ends_untaken f2 passed p b pending Stops.StoreFault bytes is why = absurd why
-ends_untaken f2 passed p b pending Stops.StashFull bytes is why = absurd why
-ends_untaken f2 passed p b pending Stops.KeeperFault bytes is why = absurd why
-ends_untaken f2 passed p b pending (Stops.Tampered q x) bytes is why = absurd why
+ends_untaken f2 passed p b pending other bytes is why = absurd why
 
 -- all that came was passed on
 all_passed : {R : Type 0} {state : R → RevState} {f0 f2 : Fetch} {l0 l2 w0 w1 : Option (List ℕ)} {p : List ℕ} {batch : List Stmt} {r : Tally} {m0 m1 : Machine R} (so : SoFar state f0 f2 l0 l2 w0 w1 p batch r m0 m1) → f2.unread ≡ [] → f0.unread ++ so.fed.piece ≡ so.passed
@@ -260,9 +255,4 @@ by_room stop is = inl is
 pub by_byte : (p : List ℕ) (b : ℕ) (stop : Stop) → IsNotTaken p b stop → (stop ≡ Stops.NoMemory) ⊎ (stop ≡ Stops.InputLimit)
 by_byte p b Stops.NoMemory why = inl refl
 by_byte p b Stops.InputLimit why = inr refl
-by_byte p b Stops.SourceFault why = absurd why
-by_byte p b Stops.SinkFault why = absurd why
-by_byte p b Stops.StoreFault why = absurd why
-by_byte p b Stops.StashFull why = absurd why
-by_byte p b Stops.KeeperFault why = absurd why
-by_byte p b (Stops.Tampered q x) why = absurd why
+by_byte p b other why = absurd why

@@ -45,12 +45,7 @@ fault_refusal r h = absurd (cc h)
 
 pub fault_is : (o : Outcome) → is_fault o ≡ true → o ≡ Refused StoreFault
 fault_is (Refused r) h = ap Refused (fault_refusal r h)
-fault_is Created h = absurd (cc h)
-fault_is Inserted h = absurd (cc h)
-fault_is (Changed n) h = absurd (cc h)
-fault_is (Deleted n) h = absurd (cc h)
-fault_is Dropped h = absurd (cc h)
-fault_is (Rows k) h = absurd (cc h)
+fault_is other h = absurd (cc h)
 
 pub outcome_cases : (o : Outcome) (whole cut with also : Type 0) → by_fault (is_fault o) cut whole → by_fault (is_fault o) also with → (whole × with) ⊎ ByStore o cut also
 outcome_cases o whole cut with also a b = go (is_fault o) refl a b where

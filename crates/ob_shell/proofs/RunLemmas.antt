@@ -24,7 +24,7 @@ use Rattle.ob_shell.proofs.WaitLemmas.{answered_but, break_then, ends_end, follo
 use Rattle.ob_shell.specs.Feeding.{Fed, Fetch}
 use Rattle.ob_shell.specs.Flying.{flights_at, flights_of, start_of}
 use Rattle.ob_headline.specs.declared.flight.FlightSettings.{FlightSettings}
-use Rattle.ob_shell.specs.Running.{EndsBy, SessionRan, SoFar}
+use Rattle.ob_shell.specs.Running.{EndsBy, OutFailed, SessionRan, SoFar}
 use Rattle.ob_shell.specs.Serving.{HasRead, ended_with}
 use Rattle.ob_headline.specs.Flights.{most_flown}
 use Rattle.ob_shell.specs.Steps.{AreSpelt, Flights, Gathered, Machine, asked_of, machine_of, none_gathered, standing}
@@ -42,11 +42,7 @@ use Rattle.ob_vault.specs.State.{RevState}
 -- ---- the session
 pub run_ends : (f : Fetch) (ended : Bool) (bytes : List ℕ) (more : List (List ℕ)) (part : List ℕ) (run : RunStop) → EndsBy f ended bytes more part (Err (session_stop run))
 run_ends f ended bytes more part (Runs.Tampered region place) = tt
-run_ends f ended bytes more part Runs.SinkFault = tt
-run_ends f ended bytes more part Runs.NoMemory = tt
-run_ends f ended bytes more part Runs.StoreFault = tt
-run_ends f ended bytes more part Runs.StashFull = tt
-run_ends f ended bytes more part Runs.KeeperFault = tt
+run_ends f ended bytes more part other = tt
 
 pub below_is_not_over : (p : List ℕ) → length p < text_max → is_over p ≡ false
 below_is_not_over p h = grind arith
@@ -190,3 +186,11 @@ ran_unflushed {state = state} {f0 = f0} {gave = gave} {m0 = m0} {m1 = m1} ends r
 pub ran_from : {R : Type 0} {state : R → RevState} {Lost : Type 0} {on : Bool} {t0 t2 : Option (List ℕ)} {f0 f2 : Fetch} {gave : ℕ} {l0 l2 w0 w2 : Option (List ℕ)} {m2 : Machine R} {stop : Result Tally Stop} (e : Engine R) (s : StoreState) (k : KeeperState) (settings : Option FlightSettings) (last : ℕ) → last ≡ start_of settings
     → SessionRan state on f0 f2 l0 l2 gave w0 w2 t0 t2 (machine_of e s k (flights_of settings last)) m2 Lost stop → SessionRan state on f0 f2 l0 l2 gave w0 w2 t0 t2 (machine_of e s k (flights_at settings)) m2 Lost stop
 ran_from {state = state} {Lost = Lost} {on = on} {t0 = t0} {t2 = t2} {f0 = f0} {f2 = f2} {gave = gave} {l0 = l0} {l2 = l2} {w0 = w0} {w2 = w2} {m2 = m2} {stop = stop} e s k settings last is ran = subst (λ (n : ℕ). SessionRan state on f0 f2 l0 l2 gave w0 w2 t0 t2 (machine_of e s k (flights_of settings n)) m2 Lost stop) is ran
+
+-- and what it was served over is the same by these names
+pub ran_over : {R S B K T : Type 0} {state : R → RevState} {on quiet : Bool} {f0 f2 : Fetch} {gave : ℕ} {l0 l2 w0 t0 : Option (List ℕ)} {e0 e1 e2 : Engine R} {s0 : StoreState} {b0 : KeeperState} {settings : Option FlightSettings} {last : ℕ} {left : Flights} {stop : Result Tally Stop} {s1 s2 : S} {b1 b2 : B} {k1 k2 : K} {t1 t2 : T} (store : S → StoreState) (keeper : B → KeeperState) (written : K → Option (List ℕ)) (faults : K → ℕ) (traced : T → Option (List ℕ)) (n0 : ℕ)
+    → e1 ≡ e2 → s1 ≡ s2 → b1 ≡ b2 → k1 ≡ k2 → t1 ≡ t2 → last ≡ start_of settings
+    → SessionRan state on f0 f2 l0 l2 gave w0 (written k1) t0 (traced t1) (machine_of e0 s0 b0 (flights_of settings last)) (machine_of e1 (store s1) (keeper b1) left) (OutFailed quiet n0 (faults k1)) stop
+    → (left : Flights) × SessionRan state on f0 f2 l0 l2 gave w0 (written k2) t0 (traced t2) (machine_of e0 s0 b0 (flights_at settings)) (machine_of e2 (store s2) (keeper b2) left) (OutFailed quiet n0 (faults k2)) stop
+ran_over {e0 = e0} {s0 = s0} {b0 = b0} {settings = settings} {last = last} {left = left} store keeper written faults traced n0 engine_is store_is behind_is out_is trace_is started ran =
+    (left, ran_from e0 s0 b0 settings last started (rw (← engine_is, ← store_is, ← behind_is, ← out_is, ← trace_is) ran))

@@ -9,16 +9,16 @@ use Rattle.ob_base.specs.declared.access.Access.{Access}
 use Rattle.ob_base.specs.declared.config.Config.{Config}
 use Rattle.ob_base.specs.declared.config.Public.{Public}
 use Rattle.ob_base.specs.declared.fault.Failed.{Failed}
-use Rattle.ob_base.specs.declared.mark.Mark.{Mark}
-use Rattle.ob_base.specs.declared.mark.Mark.TheVariants.{Fresh, InUse, Closed, Begun, Saved}
+use Rattle.ob_reopen.specs.declared.mark.Mark.{Mark}
+use Rattle.ob_reopen.specs.declared.mark.Mark.TheVariants.{Fresh, InUse, Closed, Begun, Saved}
 use Rattle.ob_headline.proofs.FlatLemmas.{opened_flat}
 use Rattle.ob_headline.specs.Bases.{Base, Opened, fresh, reopened}
 use Rattle.ob_headline.specs.Keeping.{closing_named, opening_end}
-use Rattle.ob_headline.specs.Saving.{BeginsSaved, EndsShut, HandsBegun, IsFoundBare, LooksBare, ReopensSaved, RestsAt, StaysShut, begun_mark}
+use Rattle.ob_headline.specs.Saving.{BeginsSaved, EndsShut, HandsBegun, IsFoundBare, LooksBare, ReopensSaved, RestsAt, StaysLocked, StaysShut, begun_mark}
 use Rattle.ob_headline.specs.declared.ending.KeptEnding.{KeptEnding}
 use Rattle.ob_headline.specs.declared.ending.KeptEnding.TheVariants.{OtherPack}
 use Rattle.ob_mean.specs.Verdict.{Tables}
-use Rattle.ob_reopen.proofs.OutlastLemmas.{rests_last}
+use Rattle.ob_reopen.proofs.OutlastLemmas.{listed_last, rests_last}
 use Rattle.ob_reopen.proofs.SavedLemmas.{rests_under}
 use Rattle.ob_reopen.specs.Keepers.{IsMark, KeeperState}
 use Rattle.ob_reopen.specs.Reopened.{opening_script}
@@ -29,13 +29,13 @@ use Rattle.ob_reopen.specs.declared.fault.OpenErr.{OpenErr}
 use Rattle.ob_reopen.specs.declared.listed.Listed.{Listed}
 use Rattle.ob_seal.proofs.Salts.{own_pair, salted_of_secret}
 use Rattle.ob_seal.specs.KeySet.{KeySet, pair_of}
-use Rattle.ob_seal.specs.Sealed.{AreBefore, AreOfSecret, keys_salted}
+use Rattle.ob_seal.specs.Sealed.{AreBefore, keys_salted}
 use Rattle.ob_seal.specs.declared.pairs.Pair.{Pair}
 use Rattle.ob_shell.proofs.LeaveBegin.{rests_none}
 use Rattle.ob_shell.proofs.StandLemmas.{stands_first}
 use Rattle.ob_shell.proofs.SweepLemmas.{agrees_swept, calm_swept, read_stays, represents_swept, sealed_swept}
-use Rattle.ob_shell.specs.EngagingSaved.{EngagesSaved, EngineBy, IsStarted, pack_of}
-use Rattle.ob_shell.specs.Leaving.{BeginsToSave, IsRead, RestsOn}
+use Rattle.ob_shell.specs.EngagingSaved.{EngagesSaved, EngineBy, FitsSecret, IsStarted, pack_of}
+use Rattle.ob_shell.specs.Leaving.{AreByRegion, BeginsToSave, IsRead, RestsOn}
 use Rattle.ob_shell.specs.Standing.{StandsOn}
 use Rattle.ob_shell.specs.Steps.{machine_of, no_flights}
 use Rattle.ob_shell.specs.Top.{IsFresh}
@@ -93,7 +93,7 @@ module _ {R : Type 0} (state : R → RevState) (config : Config) (secret salt : 
     start = started.started;
     keyed = started.keyed;
     drawn = started.drawn;
-    of = salted_of_secret secret salt [];
+    of = record { of = salted_of_secret secret salt []; ones = λ q. tt };
     salted = λ q above. salted_own secret salt q;
     held = stands.held;
     rests = λ mark is.
@@ -145,6 +145,7 @@ module _ {R : Type 0} (state : R → RevState) (config : Config) (secret salt : 
     of = salted_of_secret secret salt (salted_regions closed closing engine.listed);
     own = ap (λ (p : Pair). p.salt) (sym (closing_pair secret salt closed closing engine.listed));
     rests = subst (λ (k : KeySet). Rests k closing s0.kept tables) reopened_by.keyed rests;
+    ones = λ q needed. tt;
   }
 
   -- what is read of it is kept as it was
@@ -163,12 +164,16 @@ module _ {R : Type 0} (state : R → RevState) (config : Config) (secret salt : 
     read_listed q needed = read_needed q (subst (λ (l : List Listed). IsNeeded closing l q) (reopened_by.lists tells nolie tables rests) needed)
 
     rests_while : (now : ℕ → Option KeptRegion) → ((q : ℕ) → IsRead closing.region base.public q → now q ≡ s0.kept q) → RestsBy secret closed closing now tables
-    rests_while now same = record {
-      keys = rests.keys;
-      of = rests.of;
-      own = rests.own;
-      rests = rests_last rests.keys s0.kept now closing tables rests.rests (λ q needed. same q (read_listed q needed));
-    }
+    rests_while now same =
+        let stay : (q : ℕ) → IsNeeded closing rests.rests.listed q → now q ≡ s0.kept q = λ q needed. same q (read_listed q needed) in
+        let listed = listed_last rests.keys s0.kept now closing tables rests.rests stay in
+        record {
+          keys = rests.keys;
+          of = rests.of;
+          own = rests.own;
+          rests = rests_last rests.keys s0.kept now closing tables rests.rests stay;
+          ones = λ q needed. rests.ones q (subst (λ (l : List Listed). IsNeeded closing l q) listed needed);
+        }
 
     holds : Represents state e s1 tables
     holds = opens.told tells nolie tables rests
@@ -279,7 +284,7 @@ module _ {R : Type 0} (state : R → RevState) (config : Config) (secret salt : 
       start = engine.start;
       keyed = engine.keyed;
       drawn = engine.drawn;
-      of = subst (AreOfSecret secret) (sym reopened_by.keyed) (salted_of_secret secret salt (salted_regions closed closing engine.listed));
+      of = subst (AreByRegion secret) (sym reopened_by.keyed) (record { of = salted_of_secret secret salt (salted_regions closed closing engine.listed); ones = λ q. tt });
       salted = salted;
       held = stands_opened.held;
       rests = λ other is_held tables rested.
@@ -336,17 +341,15 @@ module _ {R : Type 0} (state : R → RevState) (config : Config) (secret salt : 
         engages = engages_started state config secret salt saves e by.0 new (blank unasked) (steady unasked) keeper;
         saves = begins_started state config secret salt saves e by.0 new (blank unasked) (steady unasked) keeper;
       }
-  engaged (Saved region blocks number pack closed) looks by =
-      engaged_opened (Saved region blocks number pack closed) (Some closed) (closing_named region blocks number pack) by.0 looks by.1 (λ keys base reopens. (by.0, reopens)) (λ now tables rests. rests)
+  engaged (Saved region blocks number pack closed check) looks by =
+      engaged_opened (Saved region blocks number pack closed check) (Some closed) (closing_named region blocks number pack) by.0 looks by.2 (λ keys base reopens. (by.0, by.1, reopens)) (λ now tables rests. (by.1, rests))
 
 -- ---- an engine was had, and the keeper failed
 pub looks_still : {R : Type 0} (state : R → RevState) (mark : Mark) (config : Config) (secret salt : List ℕ) (e : Engine R) (old looked mid : StoreState) (failed : Failed) (drawn keeper : KeeperState)
     → LooksBare mark old looked → EngineBy state mark config secret salt e looked mid → HandsBegun mark (Err failed) drawn keeper → LooksBare mark old mid
 looks_still state Fresh config secret salt e old looked mid failed drawn keeper looks by hands = subst (λ (s : StoreState). IsFoundBare old s) (sym by.1) looks
 looks_still state InUse config secret salt e old looked mid failed drawn keeper looks by hands = absurd looks
-looks_still state (Closed region blocks number pack) config secret salt e old looked mid failed drawn keeper looks by hands = absurd hands
-looks_still state Begun config secret salt e old looked mid failed drawn keeper looks by hands = absurd hands
-looks_still state (Saved region blocks number pack closed) config secret salt e old looked mid failed drawn keeper looks by hands = absurd hands
+looks_still state other config secret salt e old looked mid failed drawn keeper looks by hands = absurd hands
 
 -- ---- the closing that a mark names
 -- its pack is that of the settings
@@ -354,15 +357,13 @@ packs : (a b : ℕ) → a ≡ b → (a == b) ≡ true
 packs a b is = rw is (grind (arith, nat_tests))
 
 pub named_by : (mark : Mark) (pack found : ℕ) → IsMark mark → pack_of mark ≡ Some found → found ≡ pack → (closed : Option (List ℕ)) × (closing : Closing) × NamesClosing mark pack closed closing
-named_by Fresh pack found within is same = absurd (cc is)
-named_by InUse pack found within is same = absurd (cc is)
 named_by (Closed region blocks number of) pack found within is same =
     let here : of ≡ found = cc is in
     (None, closing_named region blocks number of, (here ∙ same, refl, refl, within))
-named_by Begun pack found within is same = absurd (cc is)
-named_by (Saved region blocks number of salt) pack found within is same =
+named_by (Saved region blocks number of salt check) pack found within is same =
     let here : of ≡ found = cc is in
     (Some salt, closing_named region blocks number of, (here ∙ same, refl, within.1, refl, within.0))
+named_by other pack found within is same = absurd (cc is)
 
 -- its tables weren't opened
 stays_shut : {R : Type 0} (state : R → RevState) (config : Config) (secret salt : List ℕ) (closed : Option (List ℕ)) (closing : Closing) (error : OpenErr) (ending : KeptEnding) (s t : StoreState) → ending ≡ opening_end error
@@ -376,27 +377,36 @@ stays_shut state config secret salt closed closing error ending s t is opens = r
 }
 
 pub shut_opened : {R : Type 0} (state : R → RevState) (mark : Mark) (config : Config) (secret salt : List ℕ) (found : ℕ) → IsMark mark → pack_of mark ≡ Some found → found ≡ config.pack
-    → (error : OpenErr) (ending : KeptEnding) → ending ≡ opening_end error → (s t : StoreState)
+    → FitsSecret secret mark → (error : OpenErr) (ending : KeptEnding) → ending ≡ opening_end error → (s t : StoreState)
     → ((closed : Option (List ℕ)) (closing : Closing) → NamesClosing mark config.pack closed closing → OpensSaved {R = R} state config secret salt closed closing (Err error) s t)
     → EndsShut (begun_mark mark) config secret salt ending s t
-shut_opened state Fresh config secret salt found within is same error ending ends s t opens = absurd (cc is)
-shut_opened state InUse config secret salt found within is same error ending ends s t opens = absurd (cc is)
-shut_opened state (Closed region blocks number of) config secret salt found within is same error ending ends s t opens =
+shut_opened state (Closed region blocks number of) config secret salt found within is same fits error ending ends s t opens =
     let here : of ≡ found = cc is in
     let closing = closing_named region blocks number of in
     subst (λ (b : Bool). MatchBool b (StaysShut None closing secret salt ending s t) ((ending ≡ OtherPack) × (t ≡ s))) (sym (packs of config.pack (here ∙ same)))
     (stays_shut state config secret salt None closing error ending s t ends (opens None closing (here ∙ same, refl, refl, within)))
-shut_opened state Begun config secret salt found within is same error ending ends s t opens = absurd (cc is)
-shut_opened state (Saved region blocks number of closed) config secret salt found within is same error ending ends s t opens =
+shut_opened state (Saved region blocks number of closed check) config secret salt found within is same fits error ending ends s t opens =
     let here : of ≡ found = cc is in
     let closing = closing_named region blocks number of in
-    subst (λ (b : Bool). MatchBool b (StaysShut (Some closed) closing secret salt ending s t) ((ending ≡ OtherPack) × (t ≡ s))) (sym (packs of config.pack (here ∙ same)))
-    (stays_shut state config secret salt (Some closed) closing error ending s t ends (opens (Some closed) closing (here ∙ same, refl, within.1, refl, within.0)))
+    subst (λ (b : Bool). MatchBool b (StaysLocked closed check closing secret salt ending s t) ((ending ≡ OtherPack) × (t ≡ s))) (sym (packs of config.pack (here ∙ same)))
+    (inl (fits, stays_shut state config secret salt (Some closed) closing error ending s t ends (opens (Some closed) closing (here ∙ same, refl, within.1, refl, within.0))))
+shut_opened state other config secret salt found within is same fits error ending ends s t opens = absurd (cc is)
+
+-- they were opened
+pub engine_opened : {R : Type 0} (state : R → RevState) (mark : Mark) (config : Config) (secret salt : List ℕ) (found : ℕ) → IsMark mark → pack_of mark ≡ Some found → found ≡ config.pack
+    → FitsSecret secret mark → (e : Engine R) (s t : StoreState)
+    → ((closed : Option (List ℕ)) (closing : Closing) → NamesClosing mark config.pack closed closing → OpensSaved state config secret salt closed closing (Ok e) s t)
+    → EngineBy state mark config secret salt e s t
+engine_opened state (Closed region blocks number of) config secret salt found within is same fits e s t opens =
+    let here : of ≡ found = cc is in
+    (here ∙ same, opens None (closing_named region blocks number of) (here ∙ same, refl, refl, within))
+engine_opened state (Saved region blocks number of closed check) config secret salt found within is same fits e s t opens =
+    let here : of ≡ found = cc is in
+    (here ∙ same, fits, opens (Some closed) (closing_named region blocks number of) (here ∙ same, refl, within.1, refl, within.0))
+engine_opened state other config secret salt found within is same fits e s t opens = absurd (cc is)
 
 -- ---- what the keeper holds that told its mark
 pub held_then : (mark : Mark) (drawn k1 : KeeperState) (held : Mark) → HandsBegun mark (Ok tt) drawn k1 → drawn.held ≡ Some held → mark ≡ held → k1.held ≡ Some (begun_mark mark)
 held_then Fresh drawn k1 held hands is same = hands.told held is
 held_then InUse drawn k1 held hands is same = absurd hands
-held_then (Closed region blocks number pack) drawn k1 held hands is same = ap (λ (k : KeeperState). k.held) hands ∙ is ∙ ap (λ (m : Mark). Some m) (sym same)
-held_then Begun drawn k1 held hands is same = ap (λ (k : KeeperState). k.held) hands ∙ is ∙ ap (λ (m : Mark). Some m) (sym same)
-held_then (Saved region blocks number pack salt) drawn k1 held hands is same = ap (λ (k : KeeperState). k.held) hands ∙ is ∙ ap (λ (m : Mark). Some m) (sym same)
+held_then other drawn k1 held hands is same = ap (λ (k : KeeperState). k.held) hands ∙ is ∙ ap (λ (m : Mark). Some m) (sym same)

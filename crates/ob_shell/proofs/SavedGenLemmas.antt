@@ -1,9 +1,8 @@
 -- A run whose tables are saved over the generated text, one whose words are not read, and which of them the words ask for.
-use Rattle.std.proofs.Common.{◌≡◌, ℕ, Bool, true, false, List, [], Option, Some, None, Result, Ok, inl, inr, refl, sym, subst, arith}
+use Rattle.std.proofs.Common.{◌≡◌, ℕ, Bool, true, false, List, [], Option, Some, None, Ok, inl, inr, refl, sym, subst, arith}
 use Rattle.ob_headline.specs.declared.flight.FlightSettings.{FlightSettings}
 use Rattle.ob_base.specs.Counts.{Rises}
 use Rattle.ob_base.specs.declared.config.Config.{Config}
-use Rattle.ob_base.specs.declared.refusal.Stop.{Stop}
 use Rattle.ob_gen.specs.Generated.{generated}
 use Rattle.ob_gen.specs.Tally.{empty_tally}
 use Rattle.ob_headline.proofs.StopLemmas.{unbegun_stops}
@@ -20,13 +19,13 @@ use Rattle.ob_print.proofs.CutLemmas.{Outputs-whole}
 use Rattle.ob_reopen.specs.Keepers.{KeeperState}
 use Rattle.ob_shell.proofs.CountLemmas.{silenced_kept, silenced_rose}
 use Rattle.ob_shell.proofs.GeneratingLemmas.{trace_rose}
-use Rattle.ob_shell.proofs.KeptGenLemmas.{concluded_at, kept_concludes, may_keep_unread, unread_run, words_concluded, words_counted}
-use Rattle.ob_shell.proofs.SavedHeadLemmas.{saved_headlined, saved_told}
+use Rattle.ob_shell.proofs.KeptGenLemmas.{may_keep_unread, summarized_by, unkept_line, unread_run, unread_summarized_by, whole_cause}
+use Rattle.ob_shell.proofs.SaltedGenLemmas.{salted_unread, salted_unread_summarized}
+use Rattle.ob_shell.proofs.SavedHeadLemmas.{saved_headed}
 use Rattle.ob_shell.specs.Closed.{LineWritten, refused_by}
 use Rattle.ob_shell.specs.Engaging.{IsHushed, KeptClosedBy}
 use Rattle.ob_shell.specs.EngagingSaved.{RanSaved, SavedGenerated}
 use Rattle.ob_shell.specs.KeptSummary.{KeptConcludes, KeptTally}
-use Rattle.ob_shell.specs.Running.{StopCause}
 use Rattle.ob_shell.specs.SavedSummary.{KeepsOrSaves, SavedSummarized}
 use Rattle.ob_shell.specs.Top.{IsFresh}
 use Rattle.ob_shell.specs.declared.keeping.KeptEnded.{KeptEnded}
@@ -35,12 +34,6 @@ use Rattle.ob_words.specs.declared.words.WordsErr.TheVariants as Words
 use Rattle.ob_store.specs.State.{StoreState}
 
 -- ---- the run
--- nothing failed of one that came to its end
-whole_cause : (Alone : Type 0) (result : Result Bool Stop) (refused : Bool) (ending : KeptEnding) (old new : Faults) → ending ≡ Plain (Ran result) → ending ≡ Plain (Ran (Ok refused)) → StopCause Alone old new result → new.trace ≡ old.trace
-whole_cause Alone result refused ending old new is whole cause =
-    let same : result ≡ Ok refused = cc (is, whole) in
-    (subst (λ (r : Result Bool Stop). StopCause Alone old new r) same cause).trace
-
 module _ (config : Config) (flight : Option FlightSettings) (tracing : Bool) (ended : KeptEnded) (old mid : Outside) (k0 k1 : KeeperState) where
   saved_quiet : (SinksRose old.faults mid.faults → Rises old.faults.trace mid.faults.trace) → RanSaved config flight tracing ended old mid k0 k1 → IsHushed ended.quiet old.faults.trace mid.faults.trace
   saved_quiet only (inl ran) = record { rose = λ it. absurd (cc (it, ran.loud)); kept = λ it. ran.silent.1 }
@@ -59,28 +52,11 @@ pub saved_summarized : {Takes : Type 0} {settings : Option Config} {flight : Opt
     {report : Report} (source : ℕ)
     → Takes → settings ≡ Some config → s0.asked ≡ [] → SavedGenerated config flight tracing seed t0 t1 s0 s1 trace0 trace1 k0 k1 w0 w1 out0 out1 report
     → SavedSummarized settings flight Takes tracing seed (outside_of l gave w0 t0 s0 (faults_of source out0 trace0)) (outside_of l gave w1 t1 s1 (faults_of source out1 trace1)) k0 k1 report
-saved_summarized {Takes = Takes} {settings = settings} {flight = flight} {config = config} {tracing = tracing} {seed = seed} {s0 = s0} {s1 = s1} {t0 = t0} {t1 = t1} {w0 = w0} {w1 = w1} {trace0 = trace0} {trace1 = trace1} {out0 = out0} {out1 = out1}
-    {k0 = k0} {k1 = k1} {report = report} source takes set none g =
+saved_summarized {settings = settings} {flight = flight} {config = config} {tracing = tracing} {k0 = k0} {k1 = k1} source takes set none g =
     let ended = g.ended in
-    let old = outside_of (Some (generated seed.start seed.rows)) 0 None t0 s0 (faults_of 0 0 trace0) in
-    let mid = outside_of (Some g.left) g.gave None t1 s1 (faults_of 0 0 trace1) in
-    let run : Report = record { status = kept_status ended.ending; high = ended.high } in
-    let line : ended.quiet ≡ false → LineWritten (kept_line ended.ending) None None 0 0 = λ loud. record { cut = Outputs-whole None None (Rises 0 0) (kept_line ended.ending) tt; later = omega arith; empty = λ e. refl } in
-    let head : SavedHeadline settings flight Takes tracing old mid k0 k1 run = saved_headlined settings flight config takes set tracing old mid ended k0 k1 None 0 run refl refl (λ hush. record { written = refl; faults = refl }) line none g.ran in
-    let told = saved_told settings flight config takes set tracing old mid ended k0 k1 None 0 run refl refl (λ hush. record { written = refl; faults = refl }) line none g.ran in
-    record {
-      unread = record { left = refl; gave = refl; source = refl };
-      run = run;
-      left = g.left;
-      gave = g.gave;
-      headline = head;
-      tally = ended.tally;
-      counted = subst (λ (e : KeptEnding). KeptTally e head.answers ended.tally) (sym told.0) told.1;
-      concludes = subst (λ (e : KeptEnding). KeptConcludes e ended.tally s1.asked ended.high w0 w1 (faults_of source out0 trace0) (faults_of source out1 trace1) report) (sym told.0)
-          (concluded_at ended.high g.high
-          (kept_concludes ended.tally s1.asked w0 w1 source trace0 trace1 out0 out1 report ended.ending ended.quiet g.concluded (saved_quiet config flight tracing ended old mid k0 k1 (trace_rose trace0 trace1) g.ran)
-          (saved_calm config flight tracing ended old mid k0 k1 g.ran)));
-    }
+    summarized_by _ _ _ source ended g.left g.gave
+    (saved_headed settings flight config takes set tracing _ _ ended k0 k1 None 0 _ refl refl (λ hush. record { written = refl; faults = refl }) (λ loud. unkept_line ended.ending) none g.ran)
+    g.high g.concluded (saved_quiet config flight tracing _ _ _ k0 k1 (trace_rose _ _) g.ran) (saved_calm config flight tracing _ _ _ k0 k1 g.ran)
 
 -- ---- the words were not read
 unfoldable saved_unread : {Takes : Type 0} {settings : Option Config} {flight : Option FlightSettings} {tracing : Bool} {s : StoreState} {t w0 w1 l : Option (List ℕ)} {gave source trace out0 out1 : ℕ} {k : KeeperState} {report : Report} (error : WordsErr)
@@ -92,21 +68,7 @@ saved_unread_summarized : {Takes : Type 0} {settings : Option Config} {flight : 
     → IsFresh s → (error ≡ Words.Usage → ¬ Takes) → report.status ≡ status_of (refused_by error) → report.high ≡ 0 → LineWritten (last_line (refused_by error)) w0 w1 out0 out1
     → SavedSummarized settings flight Takes tracing seed (outside_of l gave w0 t s (faults_of source out0 trace)) (outside_of l gave w1 t s (faults_of source out1 trace)) k k report
 unfolding saved_unread
-saved_unread_summarized {s = s} {t = t} {w0 = w0} {w1 = w1} {out0 = out0} {out1 = out1} {report = report} source trace seed error blank not status high line =
-    let ending = refused_by error in
-    let closed : KeptClosedBy (Plain ending) false w0 w1 out0 out1 report.status = record { told = status; silent = λ loud. absurd (cc loud); line = λ loud. line } in
-    record {
-      unread = record { left = refl; gave = refl; source = refl };
-      run = record { status = status_of ending; high = 0 };
-      left = generated seed.start seed.rows;
-      gave = 0;
-      headline = saved_unread error blank not refl refl (record { cut = Outputs-whole None None (Rises 0 0) (last_line ending) tt; later = omega arith; empty = λ e. refl });
-      tally = empty_tally;
-      counted = words_counted error empty_tally;
-      concludes = concluded_at 0 high
-          (kept_concludes empty_tally s.asked w0 w1 source trace trace out0 out1 report (Plain ending) false (words_concluded error empty_tally s.asked w0 w1 out0 out1 report.status closed)
-          (record { rose = λ loud. absurd (cc loud); kept = λ loud. refl }) (λ refused is. refl));
-    }
+saved_unread_summarized source trace seed error blank not status high line = unread_summarized_by _ _ _ source trace error (saved_unread error blank not refl refl (unkept_line (Plain (refused_by error)))) refl refl status high line
 
 -- ---- whether tables are saved
 pub keeps_or_saves : (settings : Option Config) (flight : Option FlightSettings) (Takes : Type 0) (tracing : Bool) (old new : Outside) (k0 k1 : KeeperState) (report : Report) (saves on : Bool) (keeps kept : Bool) (asked seed : Option Seed) → saves ≡ on → keeps ≡ kept → asked ≡ seed
@@ -120,6 +82,8 @@ pub keeps_or_saves_unread : {Takes : Type 0} {s : StoreState} {w0 w1 : Option (L
     (saves keeps : Bool) (asked : Option Seed) (error : WordsErr)
     → IsFresh s → (error ≡ Words.Usage → ¬ Takes) → report.status ≡ status_of (refused_by error) → report.high ≡ 0 → LineWritten (last_line (refused_by error)) w0 w1 out0 out1
     → KeepsOrSaves saves keeps asked settings flight Takes tracing (outside_of l gave w0 t s (faults_of source out0 trace)) (outside_of l gave w1 t s (faults_of source out1 trace)) k k report
-keeps_or_saves_unread settings flight tracing t l gave source trace k false keeps asked error blank not status high line = may_keep_unread settings flight tracing t l gave source trace k keeps asked error blank not status high line
+keeps_or_saves_unread settings flight tracing t l gave source trace k false false None error blank not status high line = salted_unread error blank not status high line
+keeps_or_saves_unread settings flight tracing t l gave source trace k false false (Some seed) error blank not status high line = salted_unread_summarized source trace seed error blank not status high line
+keeps_or_saves_unread settings flight tracing t l gave source trace k false true asked error blank not status high line = may_keep_unread settings flight tracing t l gave source trace k true asked error blank not status high line
 keeps_or_saves_unread settings flight tracing t l gave source trace k true keeps None error blank not status high line = saved_unread error blank not status high line
 keeps_or_saves_unread settings flight tracing t l gave source trace k true keeps (Some seed) error blank not status high line = saved_unread_summarized source trace seed error blank not status high line

@@ -31,33 +31,18 @@ not_so true is = absurd (cc is)
 not_so false is = refl
 
 pub flown_selects : (p : Public) (sk : Skeleton) → may_fly p sk ≡ true → SelectsFromOne sk
-flown_selects p (K.Create table cs n shape) fly = absurd (cc fly)
-flown_selects p (K.Insert table cs) fly = absurd (cc fly)
-flown_selects p (K.Update table cs) fly = absurd (cc fly)
-flown_selects p (K.Delete table) fly = absurd (cc fly)
-flown_selects p (K.Drop table) fly = absurd (cc fly)
 flown_selects p (K.Rows (OneTable name) cs) fly = tt
-flown_selects p (K.Rows (Join a b on equals) cs) fly = absurd (cc fly)
 flown_selects p (K.Groups table cs key) fly = tt
+flown_selects p other fly = absurd (cc fly)
 
 pub flown_flat : (p : Public) (sk : Skeleton) → may_fly p sk ≡ true → is_access p sk ≡ false
-flown_flat p (K.Create table cs n shape) fly = absurd (cc fly)
-flown_flat p (K.Insert table cs) fly = absurd (cc fly)
-flown_flat p (K.Update table cs) fly = absurd (cc fly)
-flown_flat p (K.Delete table) fly = absurd (cc fly)
-flown_flat p (K.Drop table) fly = absurd (cc fly)
 flown_flat p (K.Rows (OneTable name) cs) fly = not_so (has_index p name) fly
-flown_flat p (K.Rows (Join a b on equals) cs) fly = absurd (cc fly)
 flown_flat p (K.Groups table cs key) fly = refl
+flown_flat p other fly = absurd (cc fly)
 
 pub flown_inserts : (p : Public) (sk : Skeleton) → may_fly p sk ≡ true → inserts_into sk ≡ None
-flown_inserts p (K.Create table cs n shape) fly = refl
 flown_inserts p (K.Insert table cs) fly = absurd (cc fly)
-flown_inserts p (K.Update table cs) fly = refl
-flown_inserts p (K.Delete table) fly = refl
-flown_inserts p (K.Drop table) fly = refl
-flown_inserts p (K.Rows source cs) fly = refl
-flown_inserts p (K.Groups table cs key) fly = refl
+flown_inserts p other fly = refl
 
 -- ---- nothing is gathered
 none_behind : (a b : Bool) → (a && b && false) ≡ false
@@ -90,20 +75,14 @@ flown_gathers p m g stmt end fly =
 
 -- ---- no index is read
 drawn_flat : (p : Public) (sk : Skeleton) → may_fly p sk ≡ true → drawn_by p sk ≡ 0
-drawn_flat p (K.Create table cs n shape) fly = absurd (cc fly)
-drawn_flat p (K.Insert table cs) fly = absurd (cc fly)
-drawn_flat p (K.Update table cs) fly = absurd (cc fly)
-drawn_flat p (K.Delete table) fly = absurd (cc fly)
-drawn_flat p (K.Drop table) fly = absurd (cc fly)
 drawn_flat p (K.Rows source cs) fly = ap (λ (b : Bool). if b then 1 else 0) (flown_flat p (K.Rows source cs) fly)
 drawn_flat p (K.Groups table cs key) fly = refl
+drawn_flat p other fly = absurd (cc fly)
 
 draws_flat : (p : Public) (sk : Skeleton) (end : End) → may_fly p sk ≡ true → draws_taken p sk end ≡ 0
 draws_flat p sk Static fly = refl
 draws_flat p sk Joined fly = refl
-draws_flat p sk Whole fly = drawn_flat p sk fly
-draws_flat p sk AfterCount fly = drawn_flat p sk fly
-draws_flat p sk (Cut n) fly = drawn_flat p sk fly
+draws_flat p sk other fly = drawn_flat p sk fly
 
 leaf_by : (p : Public) (sk : Skeleton) (leaf : Option ℕ) (end : End) → may_fly p sk ≡ true → HoldsLeaf p sk leaf end → leaf ≡ None
 leaf_by p sk None end fly holds = refl
@@ -118,13 +97,9 @@ followed_same None ts = refl
 followed_same (Some r) ts = refl
 
 settled_same : (d : Draws) (p : Public) (ts : Tables) (stmt : Stmt) → may_fly p (skeleton stmt) ≡ true → settled d p ts stmt ≡ ts
-settled_same d p ts (Create table columns capacity shape) fly = absurd (cc fly)
-settled_same d p ts (Insert table columns values) fly = absurd (cc fly)
-settled_same d p ts (Update table sets cond) fly = absurd (cc fly)
-settled_same d p ts (Delete table cond) fly = absurd (cc fly)
-settled_same d p ts (DropTable table) fly = absurd (cc fly)
 settled_same d p ts (RowsStmt q) fly = refl
 settled_same d p ts (TotalsStmt q) fly = refl
+settled_same d p ts other fly = absurd (cc fly)
 
 module _ (p : Public) (m : ℕ) (ts : Tables) (listed : headings ts ≡ headings_of p.tables) (stmt : Stmt) (fly : may_fly p (skeleton stmt) ≡ true) where
   none_by : (o : Option Accessed) → is_some o ≡ false → o ≡ None

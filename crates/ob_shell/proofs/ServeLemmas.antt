@@ -190,12 +190,8 @@ misspelt state m g text at spells = record {
 
 -- of the emitter's stop alone the count rises
 stop_keeps : (stop : RunStop) (out0 out1 : ℕ) → (stop ≡ SinkFault → ⊥) → SinkStops (Err stop) out0 out1 → out1 ≡ out0
-stop_keeps (Tampered region place) out0 out1 not cause = cause
-stop_keeps NoMemory out0 out1 not cause = cause
-stop_keeps StoreFault out0 out1 not cause = cause
-stop_keeps StashFull out0 out1 not cause = cause
-stop_keeps KeeperFault out0 out1 not cause = cause
 stop_keeps SinkFault out0 out1 not cause = absurd (not refl)
+stop_keeps other out0 out1 not cause = cause
 
 -- a stop of the engine, and what waited was flushed after it
 pub stop_cause : (T : Type 0) (stop : RunStop) (out0 out1 out2 : ℕ) → SinkStops (Err stop) out0 out1 → out1 ≤ out2

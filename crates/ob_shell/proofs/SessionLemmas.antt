@@ -10,7 +10,7 @@ use Rattle.ob_base.specs.declared.access.Access.{Access}
 use Rattle.ob_base.specs.declared.access.Access.TheVariants.{Read}
 use Rattle.ob_base.specs.declared.config.Config.{Config}
 use Rattle.ob_base.specs.declared.config.Public.{Public}
-use Rattle.ob_base.specs.declared.mark.Mark.{Mark}
+use Rattle.ob_reopen.specs.declared.mark.Mark.{Mark}
 use Rattle.ob_base.specs.declared.refusal.Stop.{Stop}
 use Rattle.ob_base.specs.declared.refusal.Stop.TheVariants.{Tampered, SourceFault, SinkFault, NoMemory, InputLimit, StoreFault, StashFull, KeeperFault}
 use Rattle.ob_tables.specs.Agreeing.{Agrees, engine_keys, first_draws, engine_start, indexes_of, opened_from, public_of, high_of, rows_of, world_of}
@@ -58,7 +58,7 @@ use Rattle.ob_reopen.specs.declared.fault.CloseErr.{CloseErr}
 use Rattle.ob_script.specs.Flights.{trace_in}
 use Rattle.ob_script.specs.Trace.{Served}
 use Rattle.ob_seal.specs.KeySet.{KeySet, pair_of}
-use Rattle.ob_seal.specs.Sealed.{AreOfSecret, sealed}
+use Rattle.ob_seal.specs.Sealed.{sealed}
 use Rattle.ob_shell.proofs.CalmLemmas.{MeetsChange, last_met, steps_calm}
 use Rattle.ob_shell.proofs.LastingLemmas.{HasSizes, steps_sizes, last_rows, steps_sealed, last_sealed, steps_tell, none_sealed}
 use Rattle.ob_shell.proofs.LeaveCounts.{session_counts}
@@ -82,7 +82,7 @@ use Rattle.ob_shell.proofs.WalkLast.{last_walk}
 use Rattle.ob_shell.proofs.WalkLemmas.{EndsWhole, Walked}
 use Rattle.ob_shell.proofs.WalkWhole.{walked}
 use Rattle.ob_shell.specs.Feeding.{Fetch}
-use Rattle.ob_shell.specs.Leaving.{RestsOn}
+use Rattle.ob_shell.specs.Leaving.{AreByRegion, RestsOn}
 use Rattle.ob_shell.specs.Flying.{flights_at}
 use Rattle.ob_shell.specs.Running.{EndsBy, SessionRan, LastPart}
 use Rattle.ob_shell.specs.Standing.{IsUsed, StandsOn}
@@ -125,16 +125,9 @@ ends_there region place w lie is ends =
 
 meets : (result : Result Bool Stop) (w : World) (lie : Lie) → MeetsChange result w → w.store.lie ≡ Some lie → ¬ TagFits w.vault.keys w.vault.start lie
     → (RanEnding result ≡ RanEnding (Err (Tampered lie.region lie.place))) × (w.store.asked ≡ lie.before ++ Read lie.region lie.place ∷ [])
-meets (Ok refused) w lie calm is unfit = absurd (unfit (calm.calm lie is))
 meets (Err (Tampered region place)) w lie (inl calm) is unfit = absurd (unfit (calm.calm lie is))
 meets (Err (Tampered region place)) w lie (inr ends) is unfit = ends_there region place w lie is ends
-meets (Err SourceFault) w lie calm is unfit = absurd (unfit (calm.calm lie is))
-meets (Err SinkFault) w lie calm is unfit = absurd (unfit (calm.calm lie is))
-meets (Err NoMemory) w lie calm is unfit = absurd (unfit (calm.calm lie is))
-meets (Err InputLimit) w lie calm is unfit = absurd (unfit (calm.calm lie is))
-meets (Err StoreFault) w lie calm is unfit = absurd (unfit (calm.calm lie is))
-meets (Err StashFull) w lie calm is unfit = absurd (unfit (calm.calm lie is))
-meets (Err KeeperFault) w lie calm is unfit = absurd (unfit (calm.calm lie is))
+meets other w lie calm is unfit = absurd (unfit (calm.calm lie is))
 
 -- a session that ends as tampered ends with the read of that place
 last_read : {R : Type 0} (state : R → RevState) (m1 m2 : Machine R) (more : List (List ℕ)) (part : List ℕ) (region place : ℕ) → LastPart state m1 m2 more part (Err (Tampered region place))
@@ -493,7 +486,7 @@ module _ {R : Type 0} {state : R → RevState} {Lost : Type 0} (base : Base) (co
   keeper_counts = session_counts state m0 ran.middle m2 ran.served ran.more ran.answers ran.part result ran.steps ran.last
 
   -- and it holds a mark for which the tables rest
-  pub leaves : (secret salt : List ℕ) → Agrees state first s0 → base.public.save ≡ true → AreOfSecret secret keys → ((q : ℕ) → base.start.region < q → (pair_of keys q).salt ≡ Some salt)
+  pub leaves : (secret salt : List ℕ) → Agrees state first s0 → base.public.save ≡ true → AreByRegion secret keys → ((q : ℕ) → base.start.region < q → (pair_of keys q).salt ≡ Some salt)
       → ((mark : Mark) → k0.held ≡ Some mark → FromEach base (λ x. RestsOn secret mark base.public s0.kept x.tables)) → LeavesSaved secret salt base keys (RanEnding result) story s0 s1 k0 k1
   leaves secret salt agrees saves of salted rests =
       session_leaves state (RanEnding result) m0 ran.middle m2 (ran.served ++ final.held) final.rest (ran.answers ++ final.kept) final.left walk secret salt base keys

@@ -53,7 +53,7 @@ module _ {R : Type 0} (state : R → RevState) (e : Engine R) (s t : StoreState)
           count = tied.count ∙ ap (λ (l : List Access). was.vault.start.writes + writes l) (sym sweeps.asked);
           next = tied.next ∙ ap (λ (l : List Access). was.vault.start.region + 1 + makes l) (sym sweeps.asked);
           above = subst (AllBelow was.vault.next) (sym sweeps.asked) tied.above;
-          own = subst (WritesBehind was.vault.start.region) (sym sweeps.asked) tied.own;
+          own = subst (WritesBehind was.vault.start) (sym sweeps.asked) tied.own;
           live = λ q shape lives. record { live = sweeps.live q ∙ (tied.live q shape lives).live };
           numbers = λ q x shape lives within. tied.numbers q x shape lives within ∙ ap (λ (l : List Access). number_after was.vault.start l q x) (sym sweeps.asked);
         };

@@ -91,17 +91,10 @@ nothing_over = rw rest_of-nil
 
 -- so it ends within no statement
 unfaulted_ends : (ending : Ending) → EndsUnfaulted ending → ends_within ending ≡ true → ⊥
-unfaulted_ends Usage fine ends = cc ends
-unfaulted_ends BadKey fine ends = cc ends
-unfaulted_ends (RanEnding (Ok flag)) fine ends = cc ends
-unfaulted_ends (RanEnding (Err (Tampered region place))) fine ends = cc ends
-unfaulted_ends (RanEnding (Err SourceFault)) fine ends = cc ends
-unfaulted_ends (RanEnding (Err SinkFault)) fine ends = cc ends
-unfaulted_ends (RanEnding (Err NoMemory)) fine ends = cc ends
-unfaulted_ends (RanEnding (Err InputLimit)) fine ends = cc ends
 unfaulted_ends (RanEnding (Err StoreFault)) fine ends = fine
 unfaulted_ends (RanEnding (Err StashFull)) fine ends = fine
 unfaulted_ends (RanEnding (Err KeeperFault)) fine ends = fine
+unfaulted_ends other fine ends = cc ends
 
 pub unstarted : {keys : KeySet} (tr : TraceSink) (settings : Option Config) (flight : Option FlightSettings) (secret : Option (List ℕ)) (s : StoreState) (more : List (List ℕ)) (ending : Ending) → IsFresh s → tr.new ≡ tr.old → EndsUntampered ending → EndsUnfaulted ending
     → Carried tr (flying flight (fresh settings)) keys secret s s 0 (unserved more) ending
@@ -231,7 +224,7 @@ module _ (tally : Tally) (tr : TraceSink) (untraced : tr.new ≡ tr.old) (settin
         says = ends;
       }
 
-  pub shown_last : tally ≡ tally_of [] → {F : Type 0} {keys : List ℕ → KeySet} {l0 l1 : Option (List ℕ)} (key : List ℕ) (w : Option (List ℕ)) (s : StoreState) → IsFresh s
+  unfoldable pub shown_last : tally ≡ tally_of [] → {F : Type 0} {keys : List ℕ → KeySet} {l0 l1 : Option (List ℕ)} (key : List ℕ) (w : Option (List ℕ)) (s : StoreState) → IsFresh s
       → KeyRead f0 f1 l0 l1 (Ok (Last key)) → RunShown tally tr (flying flight (fresh settings)) keys l0 l1 gave w w s s 0 (RanEnding (Ok false)) [] F
   shown_last blank key w s fresh read =
       let e = piece_is read.fed none in
@@ -299,12 +292,7 @@ says_of (Ok flag) f max taken ended more part h n top e = record {
   short = e.3;
   within = omega (arith, e.4);
 }
-says_of (Err (Tampered region place)) f max taken ended more part h n top e = h
-says_of (Err SinkFault) f max taken ended more part h n top e = h
 says_of (Err NoMemory) f max taken ended more part h n top e = tt
-says_of (Err StoreFault) f max taken ended more part h n top e = h
-says_of (Err StashFull) f max taken ended more part h n top e = h
-says_of (Err KeeperFault) f max taken ended more part h n top e = h
 says_of (Err SourceFault) f max taken ended more part h n top e = record {
   line = inl h;
   cut = e.0;
@@ -317,6 +305,7 @@ says_of (Err InputLimit) f max taken ended more part h n top e = record {
   all = record { no_more = e.1; no_part = e.2 };
   limit = elim e.3 [ inl over ↦ inl over | inr full ↦ inr (n ∙ full ∙ top) ];
 }
+says_of other f max taken ended more part h n top e = h
 
 -- what follows the first line, and the secret in it
 pub after_secret : {f0 f1 : Fetch} {l0 l1 : Option (List ℕ)} {key : List ℕ} (piece : List ℕ) → f0.unread ≡ [] → (read : KeyRead f0 f1 l0 l1 (Ok (Secret key)))
@@ -421,16 +410,8 @@ shown_unread tally tr settings flight l gave w s ending blank untraced untampere
 
 pub takes_of : (ending : Ending) {Takes : Type 0} → ending ≢ Usage → Takes → EndingWords ending Takes
 takes_of Usage not_usage t = absurd (not_usage refl)
-takes_of BadKey not_usage t = t
-takes_of (RanEnding (Ok refused)) not_usage t = t
-takes_of (RanEnding (Err (Tampered region place))) not_usage t = t
-takes_of (RanEnding (Err SourceFault)) not_usage t = t
-takes_of (RanEnding (Err SinkFault)) not_usage t = t
 takes_of (RanEnding (Err NoMemory)) not_usage t = tt
-takes_of (RanEnding (Err InputLimit)) not_usage t = t
-takes_of (RanEnding (Err StoreFault)) not_usage t = t
-takes_of (RanEnding (Err StashFull)) not_usage t = t
-takes_of (RanEnding (Err KeeperFault)) not_usage t = t
+takes_of other not_usage t = t
 
 -- ---- the last line
 

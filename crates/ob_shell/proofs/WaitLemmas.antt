@@ -327,22 +327,14 @@ module _ (f : Fetch) (ended : Bool) (bytes : List ℕ) (more : List (List ℕ)) 
   ends_end (Err Stops.NoMemory) reading = tt
   ends_end (Err Stops.SourceFault) reading = reading
   ends_end (Err Stops.InputLimit) reading = reading
-  ends_end (Err (Stops.Tampered q x)) reading = absurd reading
-  ends_end (Err Stops.SinkFault) reading = absurd reading
-  ends_end (Err Stops.StoreFault) reading = absurd reading
-  ends_end (Err Stops.StashFull) reading = absurd reading
-  ends_end (Err Stops.KeeperFault) reading = absurd reading
+  ends_end other reading = absurd reading
 
   pub last_idle : {R : Type 0} (state : R → RevState) (m : Machine R) → m.owed ≡ [] → (ends : Result (Unit {0}) Stop) → EndsReading f ended bytes more ends → LastPart state m m more [] (flagged (ended_with ends t))
   last_idle state m free (Ok x) reading = record { machine = refl; free = free; none = refl }
   last_idle state m free (Err Stops.NoMemory) reading = PartlyAt-none state m more Runs.NoMemory free refl
   last_idle state m free (Err Stops.SourceFault) reading = record { machine = refl; free = free; none = refl }
   last_idle state m free (Err Stops.InputLimit) reading = record { machine = refl; free = free; none = refl }
-  last_idle state m free (Err (Stops.Tampered q x)) reading = absurd reading
-  last_idle state m free (Err Stops.SinkFault) reading = absurd reading
-  last_idle state m free (Err Stops.StoreFault) reading = absurd reading
-  last_idle state m free (Err Stops.StashFull) reading = absurd reading
-  last_idle state m free (Err Stops.KeeperFault) reading = absurd reading
+  last_idle state m free other reading = absurd reading
 
 pub tally_end : (ends : Result (Unit {0}) Stop) (t : Tally) (answers : List Answer) → TallyIs answers (Ok t) → TallyIs answers (ended_with ends t)
 tally_end (Ok x) t answers counted = counted

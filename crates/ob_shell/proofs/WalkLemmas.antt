@@ -80,10 +80,8 @@ or_rest false b is = is
 
 -- the input was read to its end
 abbrev pub EndsWhole : Ending → Type 0
-EndsWhole Usage = ⊥
-EndsWhole BadKey = ⊥
 EndsWhole (Ran (Ok refused)) = Unit {0}
-EndsWhole (Ran (Err stop)) = ⊥
+EndsWhole other = ⊥
 
 -- ---- where tables are saved
 -- none are behind any statement, where the settings don't say so
@@ -261,9 +259,7 @@ module _ {R : Type 0} (state : R → RevState) where
   stops_where Runs.StoreFault p outline stops = elim stops [ inl access ↦ either_first (is_access p outline) (is_saved p outline) access | inr saved ↦ either_last (is_access p outline) (is_saved p outline) saved ]
   stops_where Runs.StashFull p outline stops = stops
   stops_where Runs.KeeperFault p outline stops = stops
-  stops_where (Runs.Tampered q x) p outline stops = refl
-  stops_where Runs.SinkFault p outline stops = refl
-  stops_where Runs.NoMemory p outline stops = refl
+  stops_where other p outline stops = refl
 
   -- and that is neither want of memory nor a sink's fault
   memory_ends : (run : RunStop) → run ≡ Runs.NoMemory → ends_within (Ran (Err (session_stop run))) ≡ true → ⊥

@@ -59,13 +59,8 @@ pub record IsInsert (stmt : Stmt) : Type 0 where
   pub is : stmt ≡ Insert table columns values
 
 pub insert_of : (stmt : Stmt) → IsSome (inserts_into (skeleton stmt)) → IsInsert stmt
-insert_of (Create table columns capacity shape) some = absurd (cc some)
 insert_of (Insert table columns values) some = record { table = table; columns = columns; values = values; is = refl }
-insert_of (Update table sets cond) some = absurd (cc some)
-insert_of (Delete table cond) some = absurd (cc some)
-insert_of (DropTable table) some = absurd (cc some)
-insert_of (RowsStmt q) some = absurd (cc some)
-insert_of (TotalsStmt q) some = absurd (cc some)
+insert_of other some = absurd (cc some)
 
 -- its answer by its meaning is no rows, and emits nothing
 pub insert_prints : (p : Public) (m : ℕ) (ts : Tables) (stmt : Stmt) → IsInsert stmt → (labels : List (List ℕ)) → Prints labels (verdict p m ts stmt) [] × Unfinished labels (verdict p m ts stmt) []

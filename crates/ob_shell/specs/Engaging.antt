@@ -6,7 +6,7 @@ use Rattle.ob_base.specs.Publics.{first_public}
 use Rattle.ob_base.specs.declared.access.Access.{Access}
 use Rattle.ob_base.specs.declared.config.Config.{Config}
 use Rattle.ob_base.specs.declared.fault.Failed.{Failed}
-use Rattle.ob_base.specs.declared.mark.Mark.{Mark}
+use Rattle.ob_reopen.specs.declared.mark.Mark.{Mark}
 use Rattle.ob_base.specs.declared.refusal.Stop.{Stop}
 use Rattle.ob_tables.specs.Agreeing.{count_of, high_of, opened_from}
 use Rattle.ob_tables.specs.Closing.{ClosesEngine}
@@ -23,7 +23,7 @@ use Rattle.ob_headline.specs.Words.{Faults, Outside, faults_of, keys_in, outside
 use Rattle.ob_headline.specs.declared.ending.Ending.{Ending}
 use Rattle.ob_headline.specs.declared.ending.Ending.TheVariants.{Usage, BadKey, Ran}
 use Rattle.ob_headline.specs.declared.ending.KeptEnding.{KeptEnding}
-use Rattle.ob_headline.specs.declared.ending.KeptEnding.TheVariants.{Plain, OtherPack, Saved, NoMark, StoreFault, NotClosed, KeeperFault}
+use Rattle.ob_headline.specs.declared.ending.KeptEnding.TheVariants.{Plain, OtherPack, OtherKey, Saved, NoMark, StoreFault, NotClosed, KeeperFault}
 use Rattle.ob_headline.specs.declared.ending.Report.{Report}
 use Rattle.ob_headline.specs.declared.seed.Seed.{Seed}
 use Rattle.ob_print.specs.Cuts.{Outputs}
@@ -192,6 +192,8 @@ KeptConcludedBy (Plain (Ran (Err stop))) quiet tally asked w0 w1 f0 f1 status =
     KeptClosedBy (Plain (Ran (Err stop))) quiet w0 w1 f0 f1 status
 KeptConcludedBy OtherPack quiet tally asked w0 w1 f0 f1 status =
     KeptClosedBy OtherPack quiet w0 w1 f0 f1 status
+KeptConcludedBy OtherKey quiet tally asked w0 w1 f0 f1 status =
+    KeptClosedBy OtherKey quiet w0 w1 f0 f1 status
 KeptConcludedBy Saved quiet tally asked w0 w1 f0 f1 status =
     KeptClosedBy Saved quiet w0 w1 f0 f1 status
 KeptConcludedBy NoMark quiet tally asked w0 w1 f0 f1 status =
@@ -298,17 +300,23 @@ RanKept config flight tracing ended old new keeper0 keeper1 =
     ⊎ RanWhole config flight tracing ended old new keeper0 keeper1))
 
 -- over the text that is generated from this seed, and what was written behind it
-pub record KeptGenerated (config : Config) (flight : Option FlightSettings) (tracing : Bool)
-    (seed : Seed) (traced0 traced1 : Option (List ℕ)) (store0 store1 : StoreState) (trace0 trace1 : ℕ)
-    (keeper0 keeper1 : KeeperState) (written0 written1 : Option (List ℕ)) (out0 out1 : ℕ)
-    (report : Report) : Type 0 where
+pub record GeneratedBy (Ran : KeptEnded → (old new : Outside) → Type 0) (seed : Seed)
+    (traced0 traced1 : Option (List ℕ)) (store0 store1 : StoreState) (trace0 trace1 : ℕ)
+    (written0 written1 : Option (List ℕ)) (out0 out1 : ℕ) (report : Report) : Type 0 where
   pub ended : KeptEnded
   pub left : List ℕ
   pub gave : ℕ
-  pub ran : RanKept config flight tracing ended
-      (outside_of (Some (generated seed.start seed.rows)) 0 None traced0 store0
+  pub ran : Ran ended (outside_of (Some (generated seed.start seed.rows)) 0 None traced0 store0
       (faults_of 0 0 trace0))
-      (outside_of (Some left) gave None traced1 store1 (faults_of 0 0 trace1)) keeper0 keeper1
+      (outside_of (Some left) gave None traced1 store1 (faults_of 0 0 trace1))
   pub high : report.high ≡ ended.high
   pub concluded : KeptConcludedBy ended.ending ended.quiet ended.tally store1.asked
       written0 written1 out0 out1 report.status
+
+abbrev pub KeptGenerated : (config : Config) (flight : Option FlightSettings) (tracing : Bool)
+    (seed : Seed) (traced0 traced1 : Option (List ℕ)) (store0 store1 : StoreState)
+    (trace0 trace1 : ℕ) (keeper0 keeper1 : KeeperState) (written0 written1 : Option (List ℕ))
+    (out0 out1 : ℕ) → Report → Type 0
+KeptGenerated config flight tracing seed t0 t1 s0 s1 trace0 trace1 k0 k1 w0 w1 out0 out1 report =
+    GeneratedBy (λ ended old new. RanKept config flight tracing ended old new k0 k1) seed
+    t0 t1 s0 s1 trace0 trace1 w0 w1 out0 out1 report

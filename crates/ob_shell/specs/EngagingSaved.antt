@@ -4,8 +4,8 @@ use Rattle.std.specs.Io.KnownBytes.{Consumes}
 use Rattle.ob_base.specs.Counts.{Rises}
 use Rattle.ob_base.specs.Publics.{first_public}
 use Rattle.ob_base.specs.declared.config.Config.{Config}
-use Rattle.ob_base.specs.declared.mark.Mark.{Mark}
-use Rattle.ob_base.specs.declared.mark.Mark.TheVariants.{Fresh, InUse, Closed, Begun, Saved}
+use Rattle.ob_reopen.specs.declared.mark.Mark.{Mark}
+use Rattle.ob_reopen.specs.declared.mark.Mark.TheVariants.{Fresh, InUse, Closed, Begun, Saved}
 use Rattle.ob_base.specs.declared.refusal.Stop.{Stop}
 use Rattle.ob_gen.specs.Generated.{generated}
 use Rattle.ob_gen.specs.declared.tally.Tally.{Tally}
@@ -25,9 +25,9 @@ use Rattle.ob_headline.specs.declared.seed.Seed.{Seed}
 use Rattle.ob_print.specs.Cuts.{Outputs}
 use Rattle.ob_reopen.specs.Keepers.{DrawsSalt, GivesMark, KeeperState}
 use Rattle.ob_seal.specs.KeySet.{KeySet}
-use Rattle.ob_seal.specs.Sealed.{keys_salted}
+use Rattle.ob_seal.specs.Sealed.{check_of, keys_salted}
 use Rattle.ob_headline.specs.declared.flight.FlightSettings.{FlightSettings}
-use Rattle.ob_shell.specs.Engaging.{IsHushed, KeptConcludedBy, RanUnkeyed}
+use Rattle.ob_shell.specs.Engaging.{GeneratedBy, IsHushed, KeptConcludedBy, RanUnkeyed}
 use Rattle.ob_shell.specs.Feeding.{Fetch}
 use Rattle.ob_shell.specs.Leaving.{BeginsToSave}
 use Rattle.ob_shell.specs.Running.{OutFailed, ServesAlone, Silenced, StopCause}
@@ -50,7 +50,16 @@ pack_of Fresh = None
 pack_of InUse = None
 pack_of (Closed region blocks number pack) = Some pack
 pack_of Begun = None
-pack_of (Saved region blocks number pack salt) = Some pack
+pack_of (Saved region blocks number pack salt check) = Some pack
+
+-- a mark of a run that saves was left under this secret, as its check value tells; the others tell nothing of it
+abbrev pub FitsSecret : (secret : List ℕ) → Mark → Type 0
+FitsSecret secret Fresh = ⊤
+FitsSecret secret InUse = ⊤
+FitsSecret secret (Closed region blocks number pack) = ⊤
+FitsSecret secret Begun = ⊤
+FitsSecret secret (Saved region blocks number pack salt check) =
+    check ≡ check_of secret (Some salt)
 
 -- it was just started, with these keys: it has no tables, and belongs to each store of which nothing was asked
 pub record IsStarted {R : Type 0} (state : R → RevState) (config : Config) (keys : KeySet)
@@ -66,7 +75,8 @@ pub record IsStarted {R : Type 0} (state : R → RevState) (config : Config) (ke
   pub none_open : high_of e ≡ 0
   pub rows : rows_of e ≡ config.buffer
 
--- by the mark, and a salt of the run's own: it was started, or the tables of a closing were opened
+-- by the mark, and a salt of the run's own: it was started, or the tables of a closing were opened, where the check value of
+-- a mark that has one is that of the secret
 abbrev pub EngineBy : {R : Type 0} → (R → RevState) → Mark → Config → (secret salt : List ℕ)
     → Engine R → (s t : StoreState) → Type 0
 EngineBy state Fresh config secret salt e s t =
@@ -77,9 +87,10 @@ EngineBy state (Closed region blocks number pack) config secret salt e s t =
     (closing_named region blocks number pack) (Ok e) s t
 EngineBy state Begun config secret salt e s t =
     IsStarted state config (keys_salted secret salt []) e × (t ≡ s)
-EngineBy state (Saved region blocks number pack closed) config secret salt e s t =
-    (pack ≡ config.pack) × OpensSaved state config secret salt (Some closed)
-    (closing_named region blocks number pack) (Ok e) s t
+EngineBy state (Saved region blocks number pack closed check) config secret salt e s t =
+    (pack ≡ config.pack) × (check ≡ check_of secret (Some closed))
+    × OpensSaved state config secret salt (Some closed) (closing_named region blocks number pack)
+    (Ok e) s t
 
 -- ---- how a run begins
 -- an engine with which a run may go on from this base that saves its tables, whose keeper has come to this
@@ -214,18 +225,11 @@ RanSaved config flight tracing ended old new keeper0 keeper1 =
     ⊎ (RanUnsaved config tracing ended old new keeper0 keeper1
     ⊎ RanSession config flight tracing ended old new keeper0 keeper1)
 
--- over the text that is generated from this seed, and what was written behind it
-pub record SavedGenerated (config : Config) (flight : Option FlightSettings) (tracing : Bool)
-    (seed : Seed) (traced0 traced1 : Option (List ℕ)) (store0 store1 : StoreState) (trace0 trace1 : ℕ)
-    (keeper0 keeper1 : KeeperState) (written0 written1 : Option (List ℕ)) (out0 out1 : ℕ)
-    (report : Report) : Type 0 where
-  pub ended : KeptEnded
-  pub left : List ℕ
-  pub gave : ℕ
-  pub ran : RanSaved config flight tracing ended
-      (outside_of (Some (generated seed.start seed.rows)) 0 None traced0 store0
-      (faults_of 0 0 trace0))
-      (outside_of (Some left) gave None traced1 store1 (faults_of 0 0 trace1)) keeper0 keeper1
-  pub high : report.high ≡ ended.high
-  pub concluded : KeptConcludedBy ended.ending ended.quiet ended.tally store1.asked
-      written0 written1 out0 out1 report.status
+-- over the text that is generated from a seed, and what was written behind it
+abbrev pub SavedGenerated : (config : Config) (flight : Option FlightSettings) (tracing : Bool)
+    (seed : Seed) (traced0 traced1 : Option (List ℕ)) (store0 store1 : StoreState)
+    (trace0 trace1 : ℕ) (keeper0 keeper1 : KeeperState) (written0 written1 : Option (List ℕ))
+    (out0 out1 : ℕ) → Report → Type 0
+SavedGenerated config flight tracing seed t0 t1 s0 s1 trace0 trace1 k0 k1 w0 w1 out0 out1 report =
+    GeneratedBy (λ ended old new. RanSaved config flight tracing ended old new k0 k1) seed
+    t0 t1 s0 s1 trace0 trace1 w0 w1 out0 out1 report

@@ -12,7 +12,7 @@ use Rattle.ob_headline.specs.Keeping.{kept_line, kept_status}
 use Rattle.ob_headline.specs.KeptHeadline.{KeptHeadline}
 use Rattle.ob_headline.specs.Words.{Answer, Faults, Outside, SinksRose, keys_in}
 use Rattle.ob_headline.specs.declared.ending.KeptEnding.{KeptEnding}
-use Rattle.ob_headline.specs.declared.ending.KeptEnding.TheVariants.{Plain, OtherPack, Saved, NoMark, StoreFault, NotClosed, KeeperFault}
+use Rattle.ob_headline.specs.declared.ending.KeptEnding.TheVariants.{Plain, OtherPack, OtherKey, Saved, NoMark, StoreFault, NotClosed, KeeperFault}
 use Rattle.ob_headline.specs.declared.ending.Report.{Report}
 use Rattle.ob_headline.specs.declared.seed.Seed.{Seed}
 use Rattle.ob_print.specs.Cuts.{Outputs}
@@ -24,6 +24,7 @@ use Rattle.ob_shell.specs.Top.{EndingTally}
 abbrev pub kept_conclusion : KeptEnding → Tally → List Access → List ℕ
 kept_conclusion (Plain ending) tally asked = conclusion ending tally asked
 kept_conclusion OtherPack tally asked = kept_line OtherPack
+kept_conclusion OtherKey tally asked = kept_line OtherKey
 kept_conclusion Saved tally asked = kept_line Saved
 kept_conclusion NoMark tally asked = kept_line NoMark
 kept_conclusion StoreFault tally asked = kept_line StoreFault
@@ -34,6 +35,7 @@ kept_conclusion KeeperFault tally asked = kept_line KeeperFault
 abbrev pub KeptStatusIs : KeptEnding → (status : ℕ) (Whole Rose : Type 0) → Type 0
 KeptStatusIs (Plain ending) status Whole Rose = StatusIs ending status Whole Rose
 KeptStatusIs OtherPack status Whole Rose = status ≡ kept_status OtherPack
+KeptStatusIs OtherKey status Whole Rose = status ≡ kept_status OtherKey
 KeptStatusIs Saved status Whole Rose = status ≡ kept_status Saved
 KeptStatusIs NoMark status Whole Rose = status ≡ kept_status NoMark
 KeptStatusIs StoreFault status Whole Rose = status ≡ kept_status StoreFault
@@ -44,6 +46,7 @@ KeptStatusIs KeeperFault status Whole Rose = status ≡ kept_status KeeperFault
 abbrev pub KeptTally : KeptEnding → List Answer → Tally → Type 0
 KeptTally (Plain ending) answers tally = EndingTally ending answers tally
 KeptTally OtherPack answers tally = ⊤
+KeptTally OtherKey answers tally = ⊤
 KeptTally Saved answers tally = ⊤
 KeptTally NoMark answers tally = ⊤
 KeptTally StoreFault answers tally = ⊤
@@ -61,20 +64,32 @@ pub record KeptConcludes (ending : KeptEnding) (tally : Tally) (asked : List Acc
   pub later : old.out ≤ new.out
   pub high : report.high ≡ opened
 
--- a run over the text that is generated from this seed, with it as input and a sink that keeps no answer; and what is
--- written is its summary, by what was counted of its answers, or its last line
-pub record KeptSummarized (settings : Option Config) (flight : Option FlightSettings)
-    (Takes : Type 0) (tracing : Bool) (seed : Seed) (old new : Outside) (keeper0 keeper1 : KeeperState) (report : Report) : Type 0 where
+-- a run over the text that is generated from this seed, of which a headline of this form holds, with it as input and a sink that
+-- keeps no answer; and what is written is its summary, by what was counted of its answers, or its last line
+pub record SummarizedBy (Head : (old new : Outside) → Report → Type 0)
+    (ending_of : (old new : Outside) (report : Report) → Head old new report → KeptEnding)
+    (answers_of : (old new : Outside) (report : Report) → Head old new report → List Answer)
+    (seed : Seed) (old new : Outside) (report : Report) : Type 0 where
   pub unread : IsUnread old new
   pub run : Report
   pub left : List ℕ
   pub gave : ℕ
-  pub headline : KeptHeadline settings flight Takes tracing (before_text seed old)
-      (after_text left gave new) keeper0 keeper1 run
+  pub headline : Head (before_text seed old) (after_text left gave new) run
   pub tally : Tally
-  pub counted : KeptTally headline.ending headline.answers tally
-  pub concludes : KeptConcludes headline.ending tally new.store.asked run.high
+  pub counted : KeptTally (ending_of (before_text seed old) (after_text left gave new) run headline)
+      (answers_of (before_text seed old) (after_text left gave new) run headline) tally
+  pub concludes : KeptConcludes
+      (ending_of (before_text seed old) (after_text left gave new) run headline) tally
+      new.store.asked run.high
       old.written new.written old.faults new.faults report
+
+-- of one whose tables are kept
+abbrev pub KeptSummarized : (settings : Option Config) (flight : Option FlightSettings)
+    (Takes : Type 0) (tracing : Bool) (seed : Seed) (old new : Outside)
+    (keeper0 keeper1 : KeeperState) → Report → Type 0
+KeptSummarized settings flight Takes tracing seed old new keeper0 keeper1 report =
+    SummarizedBy (λ o n r. KeptHeadline settings flight Takes tracing o n keeper0 keeper1 r)
+    (λ o n r h. h.ending) (λ o n r h. h.answers) seed old new report
 
 -- whether tables are kept, and over which text, if one is generated; where none are kept, the keeper isn't asked
 abbrev pub MayKeep : (keeps : Bool) → Option Seed → (settings : Option Config)

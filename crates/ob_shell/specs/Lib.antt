@@ -20,4 +20,7 @@ pub mod Meddling
 pub mod LineRead
 pub mod Traces
 pub mod EngagingSaved
+pub mod Salting
 pub mod SavedSummary
+pub mod Here
+pub mod Servers

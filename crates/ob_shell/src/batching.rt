@@ -9,17 +9,17 @@ ghost use Rattle.ob_print.specs.Cuts.{Outputs};
 ghost use Rattle.ob_headline.specs.declared.flight.FlightSettings.{FlightSettings};
 ghost use Rattle.ob_shell.specs.Flying.{flights_of};
 ghost use Rattle.ob_shell.specs.Lines.{BatchCut, SinksCause, line_answers};
-ghost use Rattle.ob_shell.specs.Serving.{ServesBatch, TakesTexts};
+ghost use Rattle.ob_shell.specs.Serving.{ServesBatch};
 ghost use Rattle.ob_shell.specs.Steps.{Flights as FlightsToCome, IsReady, machine_of, no_flights};
 ghost use Rattle.ob_shell.specs.Tallies.{tally_after};
 ghost use Rattle.ob_shell.specs.Waiting;
-ghost use Rattle.ob_shell.specs.Waiting.{AreBatched, AreFlown, ComesFree, IsClosed};
+ghost use Rattle.ob_shell.specs.Waiting.{AreBatched, AreFlown};
 ghost use Rattle.ob_sql.specs.Skeleton.{skeleton};
 ghost use Rattle.ob_tables.specs.Agreeing.{count_of, public_of};
 ghost use Rattle.ob_tables.specs.Batch.{AreBatch};
 
 use crate::flying::{begins_flight, may_fly, most_flown, serve_flight};
-use crate::session::{Answered, Manner, SINK_FAILED, Session, TextHalted, serve_stmt, tally_with};
+use crate::session::{Answered, SINK_FAILED, TextHalted, serve_stmt, tally_with};
 use crate::trace::{let_go_from, trace_from};
 use ob_base::{Failed, Public};
 use ob_exec::{Behind, Engine, Outcome, RunStop, batch_most, begins_batch, run_batch};
@@ -282,8 +282,15 @@ fn serve_selects<R: Revisions, S: BlockStore, B: Behind<S>, K: Sink, T: Sink, D:
     )
 }
 
-// Serves those that wait, a batch of INSERTs or SELECTs. Tells what was counted then.
-fn serve_waiting<R: Revisions, S: BlockStore, B: Behind<S>, K: Sink, T: Sink, D: Digester>(
+/// Serves those that wait, a batch of INSERTs or SELECTs. Tells what was counted then.
+pub(crate) fn serve_waiting<
+    R: Revisions,
+    S: BlockStore,
+    B: Behind<S>,
+    K: Sink,
+    T: Sink,
+    D: Digester,
+>(
     alloc: Global,
     tracing: bool,
     tally: Tally,
@@ -326,62 +333,4 @@ fn serve_waiting<R: Revisions, S: BlockStore, B: Behind<S>, K: Sink, T: Sink, D:
     serve_selects(
         alloc, tracing, tally, turns, stmts, engine, store, behind, out, trace, digest,
     )
-}
-
-/// Serves those that wait, if there are any.
-pub(crate) fn flush<R: Revisions, S: BlockStore, B: Behind<S>, K: Sink, T: Sink, D: Digester>(
-    alloc: Global,
-    manner: Manner,
-    session: &mut Session,
-    engine: &mut Engine<R>,
-    store: &mut S,
-    behind: &mut B,
-    out: &mut K,
-    trace: &mut T,
-    digest: &mut D,
-) -> Result<(), TextHalted>
-    requires waits { AreBatched manner.flight (public_of engine.old)
-        (count_of engine.old (S.state store.old)) session.old.batch.items }
-    requires ready { IsReady R.state (B.Saves behind.old)
-        (machine_of engine.old (S.state store.old) (B.state behind.old)
-        (flights_of manner.flight session.old.turns.last)) }
-    requires took { D.took digest.old (S.state store.old).asked }
-    ensures pending { session.new.pending ≡ session.old.pending }
-    ensures none { OnOk result (session.new.batch.items ≡ []) }
-    ensures idle { OnErr result (session.old.batch.items ≢ []) }
-    ensures takes { TakesTexts R.state (B.Saves behind.new) manner.tracing
-        (ComesFree manner.flight (public_of engine.old) session.old.batch.items)
-        (IsClosed manner.flight (public_of engine.old) (public_of engine.new)
-        session.old.batch.items) session.old.batch.items session.new.batch.items []
-        session.old.tally session.new.tally (K.written out.old) (K.written out.new)
-        (T.written trace.old) (T.written trace.new)
-        (faults_of 0 (K.faults out.old) (T.faults trace.old))
-        (faults_of 0 (K.faults out.new) (T.faults trace.new))
-        (machine_of engine.old (S.state store.old) (B.state behind.old)
-        (flights_of manner.flight session.old.turns.last))
-        (machine_of engine.new (S.state store.new) (B.state behind.new)
-        (flights_of manner.flight session.new.turns.last)) result }
-    ensures same { B.name behind.new ≡ B.name behind.old }
-    ensures took { OnOk result (D.took digest.new (S.state store.new).asked) }
-{
-    match serve_waiting(
-        alloc,
-        manner.tracing,
-        session.tally,
-        &mut session.turns,
-        session.batch.as_slice(),
-        engine,
-        store,
-        behind,
-        out,
-        trace,
-        digest,
-    ) {
-        Ok(tally) => {
-            session.tally = tally;
-            session.batch.clear();
-            Ok(())
-        }
-        Err(halted) => Err(halted),
-    }
 }

@@ -26,13 +26,13 @@ use crate::key::{FirstLine, read_key};
 use crate::session::serve;
 use crate::top::{Ended, ended_with, last_line, refuse_words, serve_over, status_of};
 use crate::trace::trace_from;
-use ob_base::{Config, Mark, Stop};
+use ob_base::{Config, Stop};
 use ob_exec::{CloseErr, Engine, OpenErr, Unsaved};
 use ob_gen::{Digester, Discard, Generated, Tally, TraceDigest, Undigested};
 use ob_headline::{Ending, FlightSettings, KeptEnding, Report, Seed};
 use ob_io::{Sink, Source};
 use ob_print::{Line, write_all};
-use ob_reopen::Keeper;
+use ob_reopen::{Keeper, Mark};
 use ob_seal::Keys;
 use ob_store::{BlockStore, Lasting};
 use ob_vault::{BaseRevs, Revisions};
@@ -54,7 +54,7 @@ fn kept_status(ending: KeptEnding) -> u8
 {
     match ending {
         KeptEnding::Plain(ending) => status_of(ending),
-        KeptEnding::OtherPack | KeptEnding::Saved => 2,
+        KeptEnding::OtherPack | KeptEnding::OtherKey | KeptEnding::Saved => 2,
         KeptEnding::StoreFault => 3,
         KeptEnding::NotClosed | KeptEnding::NoMark => 9,
         KeptEnding::KeeperFault => 10,
@@ -67,6 +67,7 @@ fn kept_line(ending: KeptEnding) -> Line
     match ending {
         KeptEnding::Plain(ending) => last_line(ending),
         KeptEnding::OtherPack => Line::new(b"! pack\n"),
+        KeptEnding::OtherKey => Line::new(b"! key\n"),
         KeptEnding::Saved => Line::new(b"! saved\n"),
         KeptEnding::StoreFault => Line::new(b"! store fault\n"),
         KeptEnding::NotClosed => Line::new(b"! not closed\n"),
@@ -413,6 +414,7 @@ pub(crate) fn conclude_kept<O: Sink, S: BlockStore>(
         }
         KeptEnding::Plain(Ending::Usage | Ending::BadKey | Ending::Ran(Err(_)))
         | KeptEnding::OtherPack
+        | KeptEnding::OtherKey
         | KeptEnding::Saved
         | KeptEnding::NoMark
         | KeptEnding::StoreFault

@@ -8,6 +8,7 @@ mod generating;
 mod keeping;
 mod key;
 mod pending;
+mod salting;
 mod saving;
 mod session;
 mod top;

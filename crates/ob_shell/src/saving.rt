@@ -1,8 +1,9 @@
 //! Runs whose tables are saved behind each statement that changes them.
-ghost use Rattle.std.specs.Prelude.{◌≡◌, ◌≢◌, ◌≤◌, ⊤, ℕ, Bool, List, [], IfErr, IfOk, Ok, OnOk, true};
+ghost use Rattle.std.specs.Prelude.{◌≡◌, ◌≢◌, ◌≤◌, ⊤, ℕ, Bool, List, [], IfErr, IfOk, Ok, OnOk, false, true};
 ghost use Rattle.std.specs.Prelude.{codes, map, string_bytes};
 ghost use Rattle.ob_base.specs.declared.config.Config.{Config};
 ghost use Rattle.ob_headline.specs.Bases.{Base, flying};
+ghost use Rattle.ob_headline.specs.SavedRuns.{IsOfOther};
 ghost use Rattle.ob_headline.specs.Saving.{EndsShut, HandsBegun, LooksBare, RefusesMark, begun_mark};
 ghost use Rattle.ob_headline.specs.Settings.{IsTakenSaved, flight_of, saved_settings_of};
 ghost use Rattle.ob_headline.specs.Usage.{is_saved, is_set, is_traced, saved_usage, value_of};
@@ -11,7 +12,7 @@ ghost use Rattle.ob_reopen.specs.Keepers.{IsMark};
 ghost use Rattle.ob_seal.specs.KeySet.{KeySet};
 ghost use Rattle.ob_seal.specs.Sealed.{keys_salted};
 ghost use Rattle.ob_shell.specs.Closed.{Untouched};
-ghost use Rattle.ob_shell.specs.EngagingSaved.{EndsUnsaved, EngagesSaved, EngineBy, FindsSaved, IsStarted};
+ghost use Rattle.ob_shell.specs.EngagingSaved.{EndsUnsaved, EngagesSaved, EngineBy, FindsSaved, FitsSecret, IsStarted};
 ghost use Rattle.ob_shell.specs.EngagingSaved.{RanSaved, SavedGenerated, ServesSaved, StartsSaved, pack_of};
 ghost use Rattle.ob_shell.specs.Feeding.{IsFedBy};
 ghost use Rattle.ob_shell.specs.Generating.{asked_for};
@@ -21,22 +22,22 @@ ghost use Rattle.ob_words.specs.SavedWords.{AreFit};
 ghost use Rattle.ob_shell.specs.Steps.{IsReady, machine_of, no_flights};
 
 use crate::feed::{Feed, Halt};
-use crate::generating::serve_generated;
 use crate::keeping::{
     KeptEnded, close_kept, conclude_kept, keep_generated, kept_at, opening_end, plainly, run_kept,
     stopped,
 };
 use crate::key::{FirstLine, read_key};
+use crate::salting::{run_salted, salt_generated};
 use crate::session::serve;
-use crate::top::{ended_with, refuse_words, serve_over};
+use crate::top::{ended_with, refuse_words};
 use crate::trace::trace_from;
-use ob_base::{Config, Failed, Mark, NoMemory, Stop};
+use ob_base::{Config, Failed, NoMemory, Stop};
 use ob_exec::{Engine, SavedBy};
 use ob_gen::{Digester, Discard, Generated, Tally, TraceDigest, Undigested};
 use ob_headline::{Ending, FlightSettings, KeptEnding, Report, Seed};
 use ob_io::{Sink, Source};
-use ob_reopen::{Keeper, Salts};
-use ob_seal::Keys;
+use ob_reopen::{Keeper, Mark, Salts};
+use ob_seal::{Keys, check_value};
 use ob_store::{Lasting, Saving};
 use ob_vault::{BaseRevs, Revisions};
 use ob_words::{Words, read_saved_words};
@@ -50,6 +51,17 @@ fn pack_of(mark: &Mark) -> Option<u8>
         Mark::Closed { pack, .. } => Some(pack),
         Mark::Saved { pack, .. } => Some(pack),
         Mark::Fresh | Mark::InUse | Mark::Begun => None,
+    }
+}
+
+// Whether a mark of a run that saves was left under this secret, by its check value; of the others that isn't told.
+fn fits_secret(mark: &Mark, secret: &[u8; 32]) -> bool
+    ensures fits { result ≡ true → FitsSecret secret.now mark.now }
+    ensures other { result ≡ false → IsOfOther secret.now mark.now }
+{
+    match *mark {
+        Mark::Saved { salt, check, .. } => check == check_value(secret, &salt),
+        Mark::Fresh | Mark::InUse | Mark::Closed { .. } | Mark::Begun => true,
     }
 }
 
@@ -90,7 +102,8 @@ fn start_salted<R: Revisions>(
     }
 }
 
-// The engine by a mark, under keys of a salt: a new one, or one with the tables that a run before closed or saved.
+// The engine by a mark, under keys of a salt: a new one, or one with the tables that a run before closed or saved. A mark
+// that was left under another secret is noticed before the store is asked for anything.
 fn engine_by<R: Revisions, S: Lasting>(
     alloc: Global,
     config: Config,
@@ -118,6 +131,9 @@ fn engine_by<R: Revisions, S: Lasting>(
         Some(pack) => {
             if pack != config.pack {
                 return Err(KeptEnding::OtherPack);
+            }
+            if !fits_secret(mark, secret) {
+                return Err(KeptEnding::OtherKey);
             }
             match Engine::<R>::open_saved(alloc, config, secret, salt, store, mark) {
                 Ok(engine) => Ok(engine),
@@ -364,7 +380,8 @@ fn save_generated<O: Sink, T: Sink, S: Saving, K: Salts>(
     conclude_kept(ended, digest, store, out)
 }
 
-/// Serves the input over a store of which nothing was asked, as `keep_top` does. With `--save` its tables are saved: behind
+/// Serves the input over a store of which nothing was asked, as `keep_top` does; without `--keep`, under keys of a salt that
+/// the keeper draws, so that no two runs with one secret seal under one key. With `--save` its tables are saved: behind
 /// each statement that changes them they are listed in a closing, all of which lies where a crash leaves it, and the keeper
 /// holds its mark, before the statement is answered. A later run goes on from the mark that is held, however this one ended.
 pub fn save_top<I: Source, O: Sink, T: Sink, S: Saving, K: Salts>(
@@ -421,8 +438,12 @@ pub fn save_top<I: Source, O: Sink, T: Sink, S: Saving, K: Salts>(
         }
     } else {
         match common.generated {
-            None => serve_over(alloc, common, input, out, trace, store),
-            Some(seed) => serve_generated(alloc, common, seed, out, trace, store),
+            None => {
+                let none = &mut Undigested;
+                let ended = run_salted(alloc, common, input, out, trace, none, store, keeper);
+                close_kept(ended, out)
+            }
+            Some(seed) => salt_generated(alloc, common, seed, out, trace, store, keeper),
         }
     }
 }

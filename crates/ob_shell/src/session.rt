@@ -1,5 +1,5 @@
 //! The texts of an input, each served as soon as it has come, or together with some behind it.
-ghost use Rattle.std.specs.Prelude.{◌≡◌, ◌<◌, ◌≤◌, ◌++◌, List, [], ◌∷◌, true, false, Ok, Err, length, OnOk, OnErr};
+ghost use Rattle.std.specs.Prelude.{◌≡◌, ◌≢◌, ◌<◌, ◌≤◌, ◌++◌, List, [], ◌∷◌, true, false, Ok, Err, length, OnOk, OnErr};
 ghost use Rattle.ob_base.specs.declared.access.Access.{Access};
 ghost use Rattle.ob_gen.specs.Tally.{empty_tally};
 ghost use Rattle.ob_headline.specs.Texts.{text_max, rest_after, tail_text, texts_at};
@@ -8,16 +8,16 @@ ghost use Rattle.ob_headline.specs.Statements.{Spells};
 ghost use Rattle.ob_mean.specs.Batches.{begins_batch};
 ghost use Rattle.ob_shell.specs.Feeding.{IsFedBy};
 ghost use Rattle.ob_shell.specs.Running.{IsQuiet, OutFailed, ServesAlone, SessionRan, Silenced, StopCause, halted_of, is_quiet, stop_of};
-ghost use Rattle.ob_shell.specs.Flying.{flights_at, flights_of};
-ghost use Rattle.ob_shell.specs.Serving.{IsNotTaken, ReadsTexts, ServesStmt, StandsReady, TakesMore, TakesTexts, UnlessServed, WantsRoom, broken_of};
+ghost use Rattle.ob_shell.specs.Flying.{flights_at};
+ghost use Rattle.ob_shell.specs.Here.{BatchedHere, GoesHere, WaitsHere};
+ghost use Rattle.ob_shell.specs.Serving.{IsNotTaken, ReadsTexts, ServesStmt, UnlessServed, WantsRoom, broken_of};
 ghost use Rattle.ob_shell.specs.Steps.{AnswersText, Flights, HasBody, IsApartFrom, IsReady, machine_of, no_flights};
 ghost use Rattle.ob_shell.specs.Tallies;
 ghost use Rattle.ob_shell.specs.Traces.{TracedAll, Traced};
-ghost use Rattle.ob_shell.specs.Waiting.{AreWaiting, GoesAlong, IsFree};
 ghost use Rattle.ob_sql.specs.Skeleton.{skeleton};
 ghost use Rattle.ob_tables.specs.Agreeing.{count_of, public_of};
 
-use crate::batching::{begins, flush, gather_most, goes_along};
+use crate::batching::{begins, gather_most, goes_along, serve_waiting};
 use crate::feed::{Feed, Halt};
 use crate::flying::turns_of;
 use crate::pending::{Grown, Pending, PushStop};
@@ -291,440 +291,425 @@ pub(crate) fn serve_stmt<R: Revisions, S: BlockStore, B: Behind<S>, K: Sink, T: 
     }
 }
 
-// Gives one more statement to those that wait, and serves them once they are as many as are served together.
-fn gather<R: Revisions, S: BlockStore, B: Behind<S>, K: Sink, T: Sink, D: Digester>(
-    alloc: Global,
-    manner: Manner,
-    session: &mut Session,
-    stmt: Stmt,
-    engine: &mut Engine<R>,
-    store: &mut S,
-    behind: &mut B,
-    out: &mut K,
-    trace: &mut T,
-    digest: &mut D,
-) -> Result<(), Break>
-    requires spells { Spells session.old.pending (Ok stmt) }
-    requires goes { GoesAlong manner.flight (public_of engine.old)
-        (count_of engine.old (S.state store.old)) session.old.batch.items stmt }
-    requires ready { IsReady R.state (B.Saves behind.old)
-        (machine_of engine.old (S.state store.old) (B.state behind.old)
-        (flights_of manner.flight session.old.turns.last)) }
-    requires took { D.took digest.old (S.state store.old).asked }
-    ensures pending { session.new.pending ≡ session.old.pending }
-    ensures takes { TakesMore R.state (B.Saves behind.new) manner.tracing
-        (IsFree manner.flight (public_of engine.old) (session.old.batch.items ++ stmt ∷ []))
-        (λ old new. IsFree manner.flight (public_of engine.new) session.new.batch.items new)
-        session.old.batch.items session.new.batch.items (session.old.pending ∷ []) WantsRoom
-        session.old.tally session.new.tally (K.written out.old) (K.written out.new)
-        (T.written trace.old) (T.written trace.new)
-        (faults_of 0 (K.faults out.old) (T.faults trace.old))
-        (faults_of 0 (K.faults out.new) (T.faults trace.new))
-        (machine_of engine.old (S.state store.old) (B.state behind.old)
-        (flights_of manner.flight session.old.turns.last))
-        (machine_of engine.new (S.state store.new) (B.state behind.new)
-        (flights_of manner.flight session.new.turns.last)) result }
-    ensures same { B.name behind.new ≡ B.name behind.old }
-    ensures took { UnlessServed result (D.took digest.new (S.state store.new).asked) }
-{
-    let most = gather_most(manner.flight, engine.public(), &stmt);
-    if session.batch.push(stmt).is_err() {
-        return Err(Break::Unread(Stop::NoMemory));
-    }
-    if (session.batch.len() as u64) < most {
-        return Ok(());
-    }
-    match flush(
-        alloc, manner, session, engine, store, behind, out, trace, digest,
-    ) {
-        Ok(()) => Ok(()),
-        Err(halted) => Err(Break::Served(halted)),
-    }
+/// What contracts see of what serves texts.
+pub trait Stands {
+    type Revs: Revisions;
+
+    ghost use Rattle.std.specs.Prelude.{ℕ, List, Result};
+    ghost use Rattle.ob_base.specs.declared.refusal.Stop.{Stop};
+    ghost use Rattle.ob_shell.specs.Here.{Here};
+    ghost use Rattle.ob_shell.specs.declared.session.Break.{Break};
+    ghost use Rattle.ob_shell.specs.declared.session.Manner.{Manner};
+    ghost use Rattle.ob_shell.specs.declared.session.Session.{Session};
+    ghost use Rattle.ob_shell.specs.declared.session.TextHalted.{TextHalted};
+    ghost use Rattle.ob_sql.specs.declared.stmt.Stmt.{Stmt};
+
+    /// What it and a session have come to.
+    ghost here: { Manner → Self → Session → Here Self.Revs };
+
+    /// It may be given the next text.
+    ghost Ready: { Manner → Self → Session → Type 0 };
+
+    /// It took these texts, where the first of these statements goes into nothing that is gathered; or a stop came, for one of
+    /// these causes where no text stopped it.
+    ghost Takes: { Manner → Self → Session → Self → Session → List Stmt → List (List ℕ)
+        → (Stop → Type 0) → Result (Unit {0}) Break → Type 0 };
+
+    /// It served those that waited, or a stop came.
+    ghost Flushes: { Manner → Self → Session → Self → Session → Result (Unit {0}) TextHalted
+        → Type 0 };
+
+    /// It refers to the same, whatever that has come to.
+    ghost Keeps: { Self → Self → Type 0 };
 }
 
-// Serves a statement before which none waits, or lets it wait for the next ones.
-fn begin<R: Revisions, S: BlockStore, B: Behind<S>, K: Sink, T: Sink, D: Digester>(
-    alloc: Global,
-    manner: Manner,
-    session: &mut Session,
-    stmt: Stmt,
-    engine: &mut Engine<R>,
-    store: &mut S,
-    behind: &mut B,
-    out: &mut K,
-    trace: &mut T,
-    digest: &mut D,
-) -> Result<(), Break>
-    requires spells { Spells session.old.pending (Ok stmt) }
-    requires none { session.old.batch.items ≡ [] }
-    requires ready { IsReady R.state (B.Saves behind.old)
-        (machine_of engine.old (S.state store.old) (B.state behind.old)
-        (flights_of manner.flight session.old.turns.last)) }
-    requires took { D.took digest.old (S.state store.old).asked }
-    ensures pending { session.new.pending ≡ session.old.pending }
-    ensures takes { TakesMore R.state (B.Saves behind.new) manner.tracing
-        (IsFree manner.flight (public_of engine.old) (stmt ∷ []))
-        (λ old new. IsFree manner.flight (public_of engine.new) session.new.batch.items new)
-        [] session.new.batch.items (session.old.pending ∷ []) WantsRoom
-        session.old.tally session.new.tally (K.written out.old) (K.written out.new)
-        (T.written trace.old) (T.written trace.new)
-        (faults_of 0 (K.faults out.old) (T.faults trace.old))
-        (faults_of 0 (K.faults out.new) (T.faults trace.new))
-        (machine_of engine.old (S.state store.old) (B.state behind.old)
-        (flights_of manner.flight session.old.turns.last))
-        (machine_of engine.new (S.state store.new) (B.state behind.new)
-        (flights_of manner.flight session.new.turns.last)) result }
-    ensures same { B.name behind.new ≡ B.name behind.old }
-    ensures took { UnlessServed result (D.took digest.new (S.state store.new).asked) }
-{
-    if begins(manner.flight, engine, store, &stmt) {
-        return gather(
-            alloc, manner, session, stmt, engine, store, behind, out, trace, digest,
-        );
-    }
-    let answered = serve_stmt(
-        alloc,
-        manner.tracing,
-        session.tally,
-        engine,
-        store,
-        behind,
-        &stmt,
-        out,
-        trace,
-        digest,
-    );
-    match answered {
-        Ok(tally) => {
-            session.tally = tally;
-            Ok(())
+/// What texts are served over: an engine and its store, what is behind a statement, and where answers, traces and digests go.
+#[derive(Drop)]
+pub struct Server<'a, R: Revisions, S: BlockStore, B: Behind<S>, K: Sink, T: Sink, D: Digester> {
+    pub alloc: Global,
+    pub engine: &'a mut Engine<R>,
+    pub store: &'a mut S,
+    pub behind: &'a mut B,
+    pub out: &'a mut K,
+    pub trace: &'a mut T,
+    pub digest: &'a mut D,
+}
+
+impl<'a, R: Revisions, S: BlockStore, B: Behind<S>, K: Sink, T: Sink, D: Digester> Stands
+    for Server<'a, R, S, B, K, T, D> {
+    type Revs = R;
+
+    ghost use Rattle.ob_shell.specs.Here.{FlushesHere, IsReadyHere, TakesHere};
+    ghost use Rattle.ob_shell.specs.Servers.{KeepsServer, here_of};
+
+    ghost here = { here_of S.state B.state K.written K.faults T.written T.faults };
+
+    ghost Ready = { λ manner s session. IsReadyHere R.state (B.Saves s.behind.now)
+        (D.took s.digest.now)
+        (here_of S.state B.state K.written K.faults T.written T.faults manner s session) };
+
+    ghost Takes = { λ manner s session t next firsts texts Why result. TakesHere R.state
+        (B.Saves t.behind.now) manner.tracing firsts texts Why
+        (here_of S.state B.state K.written K.faults T.written T.faults manner s session)
+        (here_of S.state B.state K.written K.faults T.written T.faults manner t next) result };
+
+    ghost Flushes = { λ manner s session t next result. FlushesHere R.state
+        (B.Saves t.behind.now) manner.tracing
+        (here_of S.state B.state K.written K.faults T.written T.faults manner s session)
+        (here_of S.state B.state K.written K.faults T.written T.faults manner t next) result };
+
+    ghost Keeps = { KeepsServer B.name };
+}
+
+impl<'a, R: Revisions, S: BlockStore, B: Behind<S>, K: Sink, T: Sink, D: Digester> Server<
+    'a,
+    R,
+    S,
+    B,
+    K,
+    T,
+    D,
+> {
+    fn new(
+        alloc: Global,
+        engine: &'a mut Engine<R>,
+        store: &'a mut S,
+        behind: &'a mut B,
+        out: &'a mut K,
+        trace: &'a mut T,
+        digest: &'a mut D,
+    ) -> Server<'a, R, S, B, K, T, D>
+        ensures { result ≡ record {
+          alloc = alloc;
+          engine = engine.entry;
+          store = store.entry;
+          behind = behind.entry;
+          out = out.entry;
+          trace = trace.entry;
+          digest = digest.entry;
+        } }
+    {
+        Server {
+            alloc,
+            engine,
+            store,
+            behind,
+            out,
+            trace,
+            digest,
         }
-        Err(halted) => Err(Break::Served(halted)),
     }
-}
 
-// Takes a statement: it goes into the batch of those that wait, or they are served before it.
-fn take_stmt<R: Revisions, S: BlockStore, B: Behind<S>, K: Sink, T: Sink, D: Digester>(
-    alloc: Global,
-    manner: Manner,
-    session: &mut Session,
-    stmt: Stmt,
-    engine: &mut Engine<R>,
-    store: &mut S,
-    behind: &mut B,
-    out: &mut K,
-    trace: &mut T,
-    digest: &mut D,
-) -> Result<(), Break>
-    requires spells { Spells session.old.pending (Ok stmt) }
-    requires waits { AreWaiting manner.flight (public_of engine.old)
-        (count_of engine.old (S.state store.old)) session.old.batch.items }
-    requires ready { IsReady R.state (B.Saves behind.old)
-        (machine_of engine.old (S.state store.old) (B.state behind.old)
-        (flights_of manner.flight session.old.turns.last)) }
-    requires took { D.took digest.old (S.state store.old).asked }
-    ensures pending { session.new.pending ≡ session.old.pending }
-    ensures takes { TakesMore R.state (B.Saves behind.new) manner.tracing
-        (IsFree manner.flight (public_of engine.old) session.old.batch.items)
-        (λ old new. IsFree manner.flight (public_of engine.new) session.new.batch.items new)
-        session.old.batch.items session.new.batch.items (session.old.pending ∷ []) WantsRoom
-        session.old.tally session.new.tally (K.written out.old) (K.written out.new)
-        (T.written trace.old) (T.written trace.new)
-        (faults_of 0 (K.faults out.old) (T.faults trace.old))
-        (faults_of 0 (K.faults out.new) (T.faults trace.new))
-        (machine_of engine.old (S.state store.old) (B.state behind.old)
-        (flights_of manner.flight session.old.turns.last))
-        (machine_of engine.new (S.state store.new) (B.state behind.new)
-        (flights_of manner.flight session.new.turns.last)) result }
-    ensures same { B.name behind.new ≡ B.name behind.old }
-    ensures took { UnlessServed result (D.took digest.new (S.state store.new).asked) }
-{
-    if goes_along(engine.public(), session.batch.as_slice(), &stmt) {
-        return gather(
-            alloc, manner, session, stmt, engine, store, behind, out, trace, digest,
-        );
-    }
-    match flush(
-        alloc, manner, session, engine, store, behind, out, trace, digest,
-    ) {
-        Ok(()) => begin(
-            alloc, manner, session, stmt, engine, store, behind, out, trace, digest,
-        ),
-        Err(halted) => Err(Break::Served(halted)),
-    }
-}
-
-// Answers a text that is no statement, behind those that wait.
-fn take_misspelt<R: Revisions, S: BlockStore, B: Behind<S>, K: Sink, T: Sink, D: Digester>(
-    alloc: Global,
-    manner: Manner,
-    session: &mut Session,
-    at: u32,
-    engine: &mut Engine<R>,
-    store: &mut S,
-    behind: &mut B,
-    out: &mut K,
-    trace: &mut T,
-    digest: &mut D,
-) -> Result<(), TextHalted>
-    requires spells { Spells session.old.pending (Err at) }
-    requires waits { AreWaiting manner.flight (public_of engine.old)
-        (count_of engine.old (S.state store.old)) session.old.batch.items }
-    requires ready { IsReady R.state (B.Saves behind.old)
-        (machine_of engine.old (S.state store.old) (B.state behind.old)
-        (flights_of manner.flight session.old.turns.last)) }
-    requires took { D.took digest.old (S.state store.old).asked }
-    ensures pending { session.new.pending ≡ session.old.pending }
-    ensures takes { TakesTexts R.state (B.Saves behind.new) manner.tracing
-        (IsFree manner.flight (public_of engine.old) session.old.batch.items)
-        (λ old new. IsFree manner.flight (public_of engine.new) session.new.batch.items new)
-        session.old.batch.items session.new.batch.items (session.old.pending ∷ [])
-        session.old.tally session.new.tally (K.written out.old) (K.written out.new)
-        (T.written trace.old) (T.written trace.new)
-        (faults_of 0 (K.faults out.old) (T.faults trace.old))
-        (faults_of 0 (K.faults out.new) (T.faults trace.new))
-        (machine_of engine.old (S.state store.old) (B.state behind.old)
-        (flights_of manner.flight session.old.turns.last))
-        (machine_of engine.new (S.state store.new) (B.state behind.new)
-        (flights_of manner.flight session.new.turns.last)) result }
-    ensures same { B.name behind.new ≡ B.name behind.old }
-    ensures took { OnOk result (D.took digest.new (S.state store.new).asked) }
-{
-    if let Err(halted) = flush(
-        alloc, manner, session, engine, store, behind, out, trace, digest,
-    ) {
-        return Err(halted);
-    }
-    let answered = Answered {
-        outcome: Outcome::Refused(Refusal::Syntax(at)),
-        plan: None,
-    };
-    match write_all(out, closing_line(answered.outcome).as_bytes()) {
-        Ok(()) => {
-            session.tally = tally_with(session.tally, answered);
-            Ok(())
-        }
-        Err(Failed) => Err(SINK_FAILED),
-    }
-}
-
-// Takes a text that is whole, which stays where it was read.
-fn take_text<R: Revisions, S: BlockStore, B: Behind<S>, K: Sink, T: Sink, D: Digester>(
-    alloc: Global,
-    manner: Manner,
-    session: &mut Session,
-    engine: &mut Engine<R>,
-    store: &mut S,
-    behind: &mut B,
-    out: &mut K,
-    trace: &mut T,
-    digest: &mut D,
-) -> Result<(), Break>
-    requires short { length session.old.pending ≤ text_max }
-    requires waits { AreWaiting manner.flight (public_of engine.old)
-        (count_of engine.old (S.state store.old)) session.old.batch.items }
-    requires ready { IsReady R.state (B.Saves behind.old)
-        (machine_of engine.old (S.state store.old) (B.state behind.old)
-        (flights_of manner.flight session.old.turns.last)) }
-    requires took { D.took digest.old (S.state store.old).asked }
-    ensures pending { session.new.pending ≡ session.old.pending }
-    ensures takes { TakesMore R.state (B.Saves behind.new) manner.tracing
-        (IsFree manner.flight (public_of engine.old) session.old.batch.items)
-        (λ old new. IsFree manner.flight (public_of engine.new) session.new.batch.items new)
-        session.old.batch.items session.new.batch.items (session.old.pending ∷ []) WantsRoom
-        session.old.tally session.new.tally (K.written out.old) (K.written out.new)
-        (T.written trace.old) (T.written trace.new)
-        (faults_of 0 (K.faults out.old) (T.faults trace.old))
-        (faults_of 0 (K.faults out.new) (T.faults trace.new))
-        (machine_of engine.old (S.state store.old) (B.state behind.old)
-        (flights_of manner.flight session.old.turns.last))
-        (machine_of engine.new (S.state store.new) (B.state behind.new)
-        (flights_of manner.flight session.new.turns.last)) result }
-    ensures same { B.name behind.new ≡ B.name behind.old }
-    ensures took { UnlessServed result (D.took digest.new (S.state store.new).asked) }
-{
-    match parse(alloc, session.pending.text()) {
-        Ok(stmt) => take_stmt(
-            alloc, manner, session, stmt, engine, store, behind, out, trace, digest,
-        ),
-        Err(error) => match error {
-            ParseErr::Syntax(at) => {
-                let taken = take_misspelt(
-                    alloc, manner, session, at, engine, store, behind, out, trace, digest,
-                );
-                match taken {
-                    Ok(()) => Ok(()),
-                    Err(halted) => Err(Break::Served(halted)),
-                }
+    // Serves those that wait, if there are any.
+    fn flush(&mut self, manner: Manner, session: &mut Session) -> Result<(), TextHalted>
+        requires waits { BatchedHere (⟦<Self as Stands>⟧.here manner self.old session.old) }
+        requires ready { ⟦<Self as Stands>⟧.Ready manner self.old session.old }
+        ensures keeps { ⟦<Self as Stands>⟧.Keeps self.old self.new }
+        ensures pending { session.new.pending ≡ session.old.pending }
+        ensures none { OnOk result (session.new.batch.items ≡ []) }
+        ensures idle { OnErr result (session.old.batch.items ≢ []) }
+        ensures flushes { ⟦<Self as Stands>⟧.Flushes manner self.old session.old
+            self.new session.new result }
+        ensures ready { OnOk result (⟦<Self as Stands>⟧.Ready manner self.new session.new) }
+    {
+        match serve_waiting(
+            self.alloc,
+            manner.tracing,
+            session.tally,
+            &mut session.turns,
+            session.batch.as_slice(),
+            self.engine,
+            self.store,
+            self.behind,
+            self.out,
+            self.trace,
+            self.digest,
+        ) {
+            Ok(tally) => {
+                session.tally = tally;
+                session.batch.clear();
+                Ok(())
             }
-            ParseErr::NoMemory => Err(Break::Unread(Stop::NoMemory)),
-        },
+            Err(halted) => Err(halted),
+        }
     }
-}
 
-// Takes one byte, and the text that it ends.
-fn turn<R: Revisions, S: BlockStore, B: Behind<S>, K: Sink, T: Sink, D: Digester>(
-    alloc: Global,
-    manner: Manner,
-    session: &mut Session,
-    b: u8,
-    engine: &mut Engine<R>,
-    store: &mut S,
-    behind: &mut B,
-    out: &mut K,
-    trace: &mut T,
-    digest: &mut D,
-) -> Result<(), Break>
-    requires short { length session.old.pending < text_max }
-    requires waits { AreWaiting manner.flight (public_of engine.old)
-        (count_of engine.old (S.state store.old)) session.old.batch.items }
-    requires ready { IsReady R.state (B.Saves behind.old)
-        (machine_of engine.old (S.state store.old) (B.state behind.old)
-        (flights_of manner.flight session.old.turns.last)) }
-    requires took { D.took digest.old (S.state store.old).asked }
-    ensures pending { OnOk result ((session.new.pending ≡ rest_after session.old.pending b)
-        × (length session.new.pending < text_max)) }
-    ensures takes { TakesMore R.state (B.Saves behind.new) manner.tracing
-        (IsFree manner.flight (public_of engine.old) session.old.batch.items)
-        (λ old new. IsFree manner.flight (public_of engine.new) session.new.batch.items new)
-        session.old.batch.items session.new.batch.items (texts_at session.old.pending b)
-        (IsNotTaken session.old.pending b)
-        session.old.tally session.new.tally (K.written out.old) (K.written out.new)
-        (T.written trace.old) (T.written trace.new)
-        (faults_of 0 (K.faults out.old) (T.faults trace.old))
-        (faults_of 0 (K.faults out.new) (T.faults trace.new))
-        (machine_of engine.old (S.state store.old) (B.state behind.old)
-        (flights_of manner.flight session.old.turns.last))
-        (machine_of engine.new (S.state store.new) (B.state behind.new)
-        (flights_of manner.flight session.new.turns.last)) result }
-    ensures same { B.name behind.new ≡ B.name behind.old }
-    ensures took { UnlessServed result (D.took digest.new (S.state store.new).asked) }
-{
-    match session.pending.push(b) {
-        Ok(Grown::More) => Ok(()),
-        Ok(Grown::Whole) => {
-            match take_text(
-                alloc, manner, session, engine, store, behind, out, trace, digest,
-            ) {
+    // Gives one more statement to those that wait, and serves them once they are as many as are served together.
+    fn gather(&mut self, manner: Manner, session: &mut Session, stmt: Stmt) -> Result<(), Break>
+        requires spells { Spells session.old.pending (Ok stmt) }
+        requires goes { GoesHere (⟦<Self as Stands>⟧.here manner self.old session.old) stmt }
+        requires ready { ⟦<Self as Stands>⟧.Ready manner self.old session.old }
+        ensures keeps { ⟦<Self as Stands>⟧.Keeps self.old self.new }
+        ensures pending { session.new.pending ≡ session.old.pending }
+        ensures takes { ⟦<Self as Stands>⟧.Takes manner self.old session.old self.new session.new
+            (session.old.batch.items ++ stmt ∷ []) (session.old.pending ∷ []) WantsRoom result }
+        ensures ready { UnlessServed result (⟦<Self as Stands>⟧.Ready manner self.new session.new) }
+    {
+        let most = gather_most(manner.flight, self.engine.public(), &stmt);
+        if session.batch.push(stmt).is_err() {
+            return Err(Break::Unread(Stop::NoMemory));
+        }
+        if (session.batch.len() as u64) < most {
+            return Ok(());
+        }
+        match self.flush(manner, session) {
+            Ok(()) => Ok(()),
+            Err(halted) => Err(Break::Served(halted)),
+        }
+    }
+
+    // Serves a statement before which none waits, or lets it wait for the next ones.
+    fn begin(&mut self, manner: Manner, session: &mut Session, stmt: Stmt) -> Result<(), Break>
+        requires spells { Spells session.old.pending (Ok stmt) }
+        requires none { session.old.batch.items ≡ [] }
+        requires ready { ⟦<Self as Stands>⟧.Ready manner self.old session.old }
+        ensures keeps { ⟦<Self as Stands>⟧.Keeps self.old self.new }
+        ensures pending { session.new.pending ≡ session.old.pending }
+        ensures takes { ⟦<Self as Stands>⟧.Takes manner self.old session.old self.new session.new
+            (stmt ∷ []) (session.old.pending ∷ []) WantsRoom result }
+        ensures ready { UnlessServed result (⟦<Self as Stands>⟧.Ready manner self.new session.new) }
+    {
+        if begins(manner.flight, self.engine, self.store, &stmt) {
+            return self.gather(manner, session, stmt);
+        }
+        match serve_stmt(
+            self.alloc,
+            manner.tracing,
+            session.tally,
+            self.engine,
+            self.store,
+            self.behind,
+            &stmt,
+            self.out,
+            self.trace,
+            self.digest,
+        ) {
+            Ok(tally) => {
+                session.tally = tally;
+                Ok(())
+            }
+            Err(halted) => Err(Break::Served(halted)),
+        }
+    }
+
+    // Takes a statement: it goes into the batch of those that wait, or they are served before it.
+    fn take_stmt(&mut self, manner: Manner, session: &mut Session, stmt: Stmt) -> Result<(), Break>
+        requires spells { Spells session.old.pending (Ok stmt) }
+        requires waits { WaitsHere (⟦<Self as Stands>⟧.here manner self.old session.old) }
+        requires ready { ⟦<Self as Stands>⟧.Ready manner self.old session.old }
+        ensures keeps { ⟦<Self as Stands>⟧.Keeps self.old self.new }
+        ensures pending { session.new.pending ≡ session.old.pending }
+        ensures takes { ⟦<Self as Stands>⟧.Takes manner self.old session.old self.new session.new
+            session.old.batch.items (session.old.pending ∷ []) WantsRoom result }
+        ensures ready { UnlessServed result (⟦<Self as Stands>⟧.Ready manner self.new session.new) }
+    {
+        if goes_along(self.engine.public(), session.batch.as_slice(), &stmt) {
+            return self.gather(manner, session, stmt);
+        }
+        match self.flush(manner, session) {
+            Ok(()) => self.begin(manner, session, stmt),
+            Err(halted) => Err(Break::Served(halted)),
+        }
+    }
+
+    // Answers a text that is no statement, behind those that wait.
+    fn take_misspelt(&mut self, manner: Manner, session: &mut Session, at: u32) -> Result<(), Break>
+        requires spells { Spells session.old.pending (Err at) }
+        requires waits { WaitsHere (⟦<Self as Stands>⟧.here manner self.old session.old) }
+        requires ready { ⟦<Self as Stands>⟧.Ready manner self.old session.old }
+        ensures keeps { ⟦<Self as Stands>⟧.Keeps self.old self.new }
+        ensures pending { session.new.pending ≡ session.old.pending }
+        ensures takes { ⟦<Self as Stands>⟧.Takes manner self.old session.old self.new session.new
+            session.old.batch.items (session.old.pending ∷ []) WantsRoom result }
+        ensures ready { UnlessServed result (⟦<Self as Stands>⟧.Ready manner self.new session.new) }
+    {
+        if let Err(halted) = self.flush(manner, session) {
+            return Err(Break::Served(halted));
+        }
+        let answered = Answered {
+            outcome: Outcome::Refused(Refusal::Syntax(at)),
+            plan: None,
+        };
+        match write_all(self.out, closing_line(answered.outcome).as_bytes()) {
+            Ok(()) => {
+                session.tally = tally_with(session.tally, answered);
+                Ok(())
+            }
+            Err(Failed) => Err(Break::Served(SINK_FAILED)),
+        }
+    }
+
+    // Takes a text that is whole, which stays where it was read.
+    fn take_text(&mut self, manner: Manner, session: &mut Session) -> Result<(), Break>
+        requires short { length session.old.pending ≤ text_max }
+        requires waits { WaitsHere (⟦<Self as Stands>⟧.here manner self.old session.old) }
+        requires ready { ⟦<Self as Stands>⟧.Ready manner self.old session.old }
+        ensures keeps { ⟦<Self as Stands>⟧.Keeps self.old self.new }
+        ensures pending { session.new.pending ≡ session.old.pending }
+        ensures takes { ⟦<Self as Stands>⟧.Takes manner self.old session.old self.new session.new
+            session.old.batch.items (session.old.pending ∷ []) WantsRoom result }
+        ensures ready { UnlessServed result (⟦<Self as Stands>⟧.Ready manner self.new session.new) }
+    {
+        match parse(self.alloc, session.pending.text()) {
+            Ok(stmt) => self.take_stmt(manner, session, stmt),
+            Err(error) => match error {
+                ParseErr::Syntax(at) => self.take_misspelt(manner, session, at),
+                ParseErr::NoMemory => Err(Break::Unread(Stop::NoMemory)),
+            },
+        }
+    }
+
+    // Takes one byte, and the text that it ends.
+    fn turn(&mut self, manner: Manner, session: &mut Session, b: u8) -> Result<(), Break>
+        requires short { length session.old.pending < text_max }
+        requires waits { WaitsHere (⟦<Self as Stands>⟧.here manner self.old session.old) }
+        requires ready { ⟦<Self as Stands>⟧.Ready manner self.old session.old }
+        ensures keeps { ⟦<Self as Stands>⟧.Keeps self.old self.new }
+        ensures pending { OnOk result ((session.new.pending ≡ rest_after session.old.pending b)
+            × (length session.new.pending < text_max)) }
+        ensures takes { ⟦<Self as Stands>⟧.Takes manner self.old session.old self.new session.new
+            session.old.batch.items (texts_at session.old.pending b)
+            (IsNotTaken session.old.pending b) result }
+        ensures ready { UnlessServed result (⟦<Self as Stands>⟧.Ready manner self.new session.new) }
+    {
+        match session.pending.push(b) {
+            Ok(Grown::More) => Ok(()),
+            Ok(Grown::Whole) => match self.take_text(manner, session) {
                 Ok(()) => {
                     session.pending.clear();
                     Ok(())
                 }
                 Err(broken) => Err(broken),
-            }
+            },
+            Err(PushStop::NoMemory) => Err(Break::Unread(Stop::NoMemory)),
+            Err(PushStop::InputLimit) => Err(Break::Unread(Stop::InputLimit)),
         }
-        Err(PushStop::NoMemory) => Err(Break::Unread(Stop::NoMemory)),
-        Err(PushStop::InputLimit) => Err(Break::Unread(Stop::InputLimit)),
     }
-}
 
-// Takes what has come of a text with no end, once no more comes.
-fn finish<R: Revisions, S: BlockStore, B: Behind<S>, K: Sink, T: Sink, D: Digester>(
-    alloc: Global,
-    manner: Manner,
-    session: &mut Session,
-    engine: &mut Engine<R>,
-    store: &mut S,
-    behind: &mut B,
-    out: &mut K,
-    trace: &mut T,
-    digest: &mut D,
-) -> Result<(), Break>
-    requires short { length session.old.pending ≤ text_max }
-    requires waits { AreWaiting manner.flight (public_of engine.old)
-        (count_of engine.old (S.state store.old)) session.old.batch.items }
-    requires ready { IsReady R.state (B.Saves behind.old)
-        (machine_of engine.old (S.state store.old) (B.state behind.old)
-        (flights_of manner.flight session.old.turns.last)) }
-    requires took { D.took digest.old (S.state store.old).asked }
-    ensures takes { TakesMore R.state (B.Saves behind.new) manner.tracing
-        (IsFree manner.flight (public_of engine.old) session.old.batch.items)
-        (λ old new. IsFree manner.flight (public_of engine.new) session.new.batch.items new)
-        session.old.batch.items session.new.batch.items (tail_text session.old.pending) WantsRoom
-        session.old.tally session.new.tally (K.written out.old) (K.written out.new)
-        (T.written trace.old) (T.written trace.new)
-        (faults_of 0 (K.faults out.old) (T.faults trace.old))
-        (faults_of 0 (K.faults out.new) (T.faults trace.new))
-        (machine_of engine.old (S.state store.old) (B.state behind.old)
-        (flights_of manner.flight session.old.turns.last))
-        (machine_of engine.new (S.state store.new) (B.state behind.new)
-        (flights_of manner.flight session.new.turns.last)) result }
-    ensures same { B.name behind.new ≡ B.name behind.old }
-    ensures took { UnlessServed result (D.took digest.new (S.state store.new).asked) }
-{
-    if !session.pending.has_words() {
-        return Ok(());
+    // Takes what has come of a text with no end, once no more comes.
+    fn finish(&mut self, manner: Manner, session: &mut Session) -> Result<(), Break>
+        requires short { length session.old.pending ≤ text_max }
+        requires waits { WaitsHere (⟦<Self as Stands>⟧.here manner self.old session.old) }
+        requires ready { ⟦<Self as Stands>⟧.Ready manner self.old session.old }
+        ensures keeps { ⟦<Self as Stands>⟧.Keeps self.old self.new }
+        ensures takes { ⟦<Self as Stands>⟧.Takes manner self.old session.old self.new session.new
+            session.old.batch.items (tail_text session.old.pending) WantsRoom result }
+        ensures ready { UnlessServed result (⟦<Self as Stands>⟧.Ready manner self.new session.new) }
+    {
+        if !session.pending.has_words() {
+            return Ok(());
+        }
+        self.take_text(manner, session)
     }
-    take_text(
-        alloc, manner, session, engine, store, behind, out, trace, digest,
-    )
-}
 
-// Reads a feed to its end or a stop, and serves the texts that it brings, but for those that wait then.
-fn read_texts<I: Source, R: Revisions, S: BlockStore, B: Behind<S>, K: Sink, T: Sink, D: Digester>(
-    alloc: Global,
-    manner: Manner,
-    session: &mut Session,
-    feed: &mut Feed,
-    input: &mut I,
-    engine: &mut Engine<R>,
-    store: &mut S,
-    behind: &mut B,
-    out: &mut K,
-    trace: &mut T,
-    digest: &mut D,
-) -> Result<(), Break>
-    requires none { session.old.batch.items ≡ [] }
-    requires fresh { session.old.pending ≡ [] }
-    requires uncounted { session.old.tally ≡ empty_tally }
-    requires ready { IsReady R.state (B.Saves behind.old)
-        (machine_of engine.old (S.state store.old) (B.state behind.old)
-        (flights_of manner.flight session.old.turns.last)) }
-    requires fed_by { IsFedBy feed.old (I.gave input.old) }
-    requires took { D.took digest.old (S.state store.old).asked }
-    ensures reads { ReadsTexts R.state manner.tracing feed.old feed.new
-        (I.left input.old) (I.left input.new) (I.gave input.new)
-        (K.written out.old) (K.written out.new) (T.written trace.old) (T.written trace.new)
-        session.new.batch.items session.new.tally
-        (machine_of engine.old (S.state store.old) (B.state behind.old)
-        (flights_of manner.flight session.old.turns.last))
-        (machine_of engine.new (S.state store.new) (B.state behind.new)
-        (flights_of manner.flight session.new.turns.last))
-        (K.faults out.old) (K.faults out.new) result }
-    ensures stands { UnlessServed result (StandsReady R.state (B.Saves behind.new)
-        (D.took digest.new (S.state store.new).asked) session.new.batch.items
-        (machine_of engine.new (S.state store.new) (B.state behind.new)
-        (flights_of manner.flight session.new.turns.last))) }
-    ensures within { feed.new.taken ≤ feed.new.limit }
-    ensures fed_by { IsFedBy feed.new (I.gave input.new) }
-    ensures traced { Traced manner.tracing (S.state store.old).asked (S.state store.new).asked
-        (T.written trace.old) (T.written trace.new) (IsQuiet (broken_of result)) }
-    ensures cause { StopCause (ServesAlone manner.flight (public_of engine.old))
-        (faults_of (I.faults input.old) (K.faults out.old) (T.faults trace.old))
-        (faults_of (I.faults input.new) (K.faults out.new) (T.faults trace.new))
-        (stop_of (broken_of result)) }
-    ensures quiet { Silenced (is_quiet (broken_of result))
-        (faults_of (I.faults input.old) (K.faults out.old) (T.faults trace.old))
-        (faults_of (I.faults input.new) (K.faults out.new) (T.faults trace.new)) }
-    ensures same { B.name behind.new ≡ B.name behind.old }
-{
-    'bytes: loop {
-        match feed.next(input) {
-            Err(Halt::SourceFault) => return Err(Break::Unread(Stop::SourceFault)),
-            Err(Halt::InputLimit) => return Err(Break::Unread(Stop::InputLimit)),
-            Ok(None) => {
-                return finish(
-                    alloc, manner, session, engine, store, behind, out, trace, digest,
-                );
-            }
-            Ok(Some(b)) => {
-                let turned = turn(
-                    alloc, manner, session, b, engine, store, behind, out, trace, digest,
-                );
-                if let Err(broken) = turned {
-                    return Err(broken);
+    // Reads a feed to its end or a stop, and serves the texts that it brings, but for those that wait then.
+    fn read_texts<I: Source>(
+        &mut self,
+        manner: Manner,
+        session: &mut Session,
+        feed: &mut Feed,
+        input: &mut I,
+    ) -> Result<(), Break>
+        requires none { session.old.batch.items ≡ [] }
+        requires fresh { session.old.pending ≡ [] }
+        requires uncounted { session.old.tally ≡ empty_tally }
+        requires ready { ⟦<Self as Stands>⟧.Ready manner self.old session.old }
+        requires fed_by { IsFedBy feed.old (I.gave input.old) }
+        ensures keeps { ⟦<Self as Stands>⟧.Keeps self.old self.new }
+        ensures reads { ReadsTexts R.state manner.tracing feed.old feed.new
+            (I.left input.old) (I.left input.new) (I.gave input.new)
+            (K.written self.old.out.now) (K.written self.new.out.now)
+            (T.written self.old.trace.now) (T.written self.new.trace.now)
+            session.new.batch.items session.new.tally
+            (⟦<Self as Stands>⟧.here manner self.old session.old).machine
+            (⟦<Self as Stands>⟧.here manner self.new session.new).machine
+            (K.faults self.old.out.now) (K.faults self.new.out.now) result }
+        ensures waits { UnlessServed result
+            (WaitsHere (⟦<Self as Stands>⟧.here manner self.new session.new)) }
+        ensures ready { UnlessServed result (⟦<Self as Stands>⟧.Ready manner self.new session.new) }
+        ensures within { feed.new.taken ≤ feed.new.limit }
+        ensures fed_by { IsFedBy feed.new (I.gave input.new) }
+        ensures traced { Traced manner.tracing (S.state self.old.store.now).asked
+            (S.state self.new.store.now).asked (T.written self.old.trace.now)
+            (T.written self.new.trace.now) (IsQuiet (broken_of result)) }
+        ensures cause { StopCause (ServesAlone manner.flight (public_of self.old.engine.now))
+            (faults_of (I.faults input.old) (K.faults self.old.out.now)
+            (T.faults self.old.trace.now))
+            (faults_of (I.faults input.new) (K.faults self.new.out.now)
+            (T.faults self.new.trace.now))
+            (stop_of (broken_of result)) }
+        ensures quiet { Silenced (is_quiet (broken_of result))
+            (faults_of (I.faults input.old) (K.faults self.old.out.now)
+            (T.faults self.old.trace.now))
+            (faults_of (I.faults input.new) (K.faults self.new.out.now)
+            (T.faults self.new.trace.now)) }
+    {
+        'bytes: loop {
+            match feed.next(input) {
+                Err(Halt::SourceFault) => return Err(Break::Unread(Stop::SourceFault)),
+                Err(Halt::InputLimit) => return Err(Break::Unread(Stop::InputLimit)),
+                Ok(None) => return self.finish(manner, session),
+                Ok(Some(b)) => {
+                    let turned = self.turn(manner, session, b);
+                    if let Err(broken) = turned {
+                        return Err(broken);
+                    }
                 }
             }
+        }
+    }
+
+    // Serves the texts that a feed brings, to its end or a stop, and then those that wait. Tells what was counted of them.
+    fn serve_feed<I: Source>(
+        &mut self,
+        manner: Manner,
+        session: &mut Session,
+        feed: &mut Feed,
+        input: &mut I,
+    ) -> Result<Tally, Halted>
+        requires none { session.old.batch.items ≡ [] }
+        requires fresh { session.old.pending ≡ [] }
+        requires uncounted { session.old.tally ≡ empty_tally }
+        requires ready { ⟦<Self as Stands>⟧.Ready manner self.old session.old }
+        requires fed_by { IsFedBy feed.old (I.gave input.old) }
+        ensures keeps { ⟦<Self as Stands>⟧.Keeps self.old self.new }
+        ensures ready { OnOk result (⟦<Self as Stands>⟧.Ready manner self.new session.new) }
+        ensures ran { SessionRan R.state manner.tracing feed.old feed.new
+            (I.left input.old) (I.left input.new) (I.gave input.new)
+            (K.written self.old.out.now) (K.written self.new.out.now)
+            (T.written self.old.trace.now) (T.written self.new.trace.now)
+            (⟦<Self as Stands>⟧.here manner self.old session.old).machine
+            (⟦<Self as Stands>⟧.here manner self.new session.new).machine
+            (OutFailed (is_quiet result) (K.faults self.old.out.now) (K.faults self.new.out.now))
+            (stop_of result) }
+        ensures within { feed.new.taken ≤ feed.new.limit }
+        ensures fed_by { IsFedBy feed.new (I.gave input.new) }
+        ensures traced { Traced manner.tracing (S.state self.old.store.now).asked
+            (S.state self.new.store.now).asked (T.written self.old.trace.now)
+            (T.written self.new.trace.now) (IsQuiet result) }
+        ensures cause { StopCause (ServesAlone manner.flight (public_of self.old.engine.now))
+            (faults_of (I.faults input.old) (K.faults self.old.out.now)
+            (T.faults self.old.trace.now))
+            (faults_of (I.faults input.new) (K.faults self.new.out.now)
+            (T.faults self.new.trace.now))
+            (stop_of result) }
+        ensures quiet { Silenced (is_quiet result)
+            (faults_of (I.faults input.old) (K.faults self.old.out.now)
+            (T.faults self.old.trace.now))
+            (faults_of (I.faults input.new) (K.faults self.new.out.now)
+            (T.faults self.new.trace.now)) }
+    {
+        let read = self.read_texts(manner, session, feed, input);
+        match read {
+            Ok(()) => match self.flush(manner, session) {
+                Ok(()) => Ok(session.tally),
+                Err(halted) => Err(Halted::from(halted)),
+            },
+            Err(Break::Unread(stop)) => match self.flush(manner, session) {
+                Ok(()) => Err(Halted { stop, quiet: false }),
+                Err(halted) => Err(Halted::from(halted)),
+            },
+            Err(Break::Served(halted)) => Err(Halted::from(halted)),
         }
     }
 }
@@ -771,30 +756,12 @@ pub fn serve<I: Source, R: Revisions, S: BlockStore, B: Behind<S>, K: Sink, T: S
     ensures took { OnOk result (D.took digest.new (S.state store.new).asked) }
 {
     let manner = Manner { tracing, flight };
-    let mut here = Session {
+    let mut session = Session {
         pending: Pending::new(alloc),
         batch: Vec::new(alloc),
         tally: Tally::new(),
         turns: turns_of(flight),
     };
-    let read = read_texts(
-        alloc, manner, &mut here, feed, input, engine, store, behind, out, trace, digest,
-    );
-    match read {
-        Ok(()) => match flush(
-            alloc, manner, &mut here, engine, store, behind, out, trace, digest,
-        ) {
-            Ok(()) => Ok(here.tally),
-            Err(halted) => Err(Halted::from(halted)),
-        },
-        Err(Break::Unread(stop)) => {
-            match flush(
-                alloc, manner, &mut here, engine, store, behind, out, trace, digest,
-            ) {
-                Ok(()) => Err(Halted { stop, quiet: false }),
-                Err(halted) => Err(Halted::from(halted)),
-            }
-        }
-        Err(Break::Served(halted)) => Err(Halted::from(halted)),
-    }
+    let mut server = Server::new(alloc, engine, store, behind, out, trace, digest);
+    server.serve_feed(manner, &mut session, feed, input)
 }

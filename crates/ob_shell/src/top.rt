@@ -1,5 +1,5 @@
 //! The top calls.
-ghost use Rattle.std.specs.Prelude.{Bool, IfOk, MatchOption, OnOk, string_bytes};
+ghost use Rattle.std.specs.Prelude.{ℕ, Bool, IfOk, List, MatchOption, OnOk, string_bytes};
 ghost use Rattle.std.specs.Prelude.{◌≡◌, ◌≢◌, ◌≤◌, [], map, Ok, Err, Some, None, true, false, ⊤};
 ghost use Rattle.ob_gen.specs.Tally.{empty_tally};
 ghost use Rattle.ob_gen.specs.declared.tally.Tally.{Tally};
@@ -11,7 +11,6 @@ ghost use Rattle.ob_headline.specs.Usage.{usage, meddle_usage, is_traced};
 ghost use Rattle.ob_headline.specs.Words.{SinksRose, faults_of, keys_in, outside_of};
 ghost use Rattle.ob_headline.specs.declared.seed.Seed.{Seed};
 ghost use Rattle.ob_meddle.specs.Shows.{state_of};
-ghost use Rattle.ob_seal.specs.Sealed.{keys_of};
 ghost use Rattle.ob_shell.specs.Closed.{LineWritten, Untouched, Unwritten, refused_by};
 ghost use Rattle.ob_shell.specs.Feeding.{IsFedBy};
 ghost use Rattle.ob_shell.specs.Generating.{MeddleRan, Summarized, asked_for};
@@ -115,12 +114,11 @@ pub(crate) fn ended_with(ran: Result<Tally, Halted>, high: u64) -> Ended
     }
 }
 
-// Starts an engine with this secret, and serves what follows the first line; no tables are saved. Tells of the rows open,
-// too.
-fn serve_with<I: Source, O: Sink, T: Sink, D: Digester, S: BlockStore>(
+// Starts an engine with these keys, and serves what follows the first line; no tables are saved. Tells of the rows open, too.
+pub(crate) fn serve_with<I: Source, O: Sink, T: Sink, D: Digester, S: BlockStore>(
     alloc: Global,
     words: Words,
-    key: &[u8; 32],
+    keys: Keys,
     feed: &mut Feed,
     input: &mut I,
     out: &mut O,
@@ -133,9 +131,9 @@ fn serve_with<I: Source, O: Sink, T: Sink, D: Digester, S: BlockStore>(
     requires fed_by { IsFedBy feed.old (I.gave input.old) }
     requires fresh { (S.state store.old).asked ≡ [] }
     requires took { D.took digest.old (S.state store.old).asked }
-    ensures ran { RanAfter ⟦<BaseRevs as Revisions>⟧.state
+    ensures ran { (secret : List ℕ) → RanAfter ⟦<BaseRevs as Revisions>⟧.state
         (sink_of words.trace (T.written trace.old) (T.written trace.new))
-        (flying words.flight (fresh (Some words.config))) (keys_of key.now) (Some key.now)
+        (flying words.flight (fresh (Some words.config))) keys (Some secret)
         feed.old feed.new
         (I.left input.old) (I.left input.new) (I.gave input.new)
         (O.written out.old) (O.written out.new)
@@ -154,7 +152,7 @@ fn serve_with<I: Source, O: Sink, T: Sink, D: Digester, S: BlockStore>(
         (faults_of (I.faults input.new) (O.faults out.new) (T.faults trace.new)) }
     ensures took { OnOk result.0 (D.took digest.new (S.state store.new).asked) }
 {
-    match Engine::<BaseRevs>::start(alloc, words.config, Keys::derive(key)) {
+    match Engine::<BaseRevs>::start(alloc, words.config, keys) {
         Err(_) => {
             let stop = Stop::NoMemory;
             (Err(Halted { stop, quiet: false }), 0)
@@ -219,8 +217,9 @@ pub(crate) fn run<I: Source, O: Sink, T: Sink, D: Digester, S: BlockStore>(
         Ok(FirstLine::Bad) => ended_at(Ending::BadKey),
         Ok(FirstLine::Last(_)) => ended_at(Ending::Ran(Ok(false))),
         Ok(FirstLine::Secret(key)) => {
+            let keys = Keys::derive(&key);
             let (ran, high) = serve_with(
-                alloc, words, &key, &mut feed, input, out, trace, digest, store,
+                alloc, words, keys, &mut feed, input, out, trace, digest, store,
             );
             ended_with(ran, high)
         }

@@ -7,9 +7,7 @@ use Rattle.ob_stages.specs.Faults.{is_fault}
 
 pub fault_is : (e : OpErr) → is_fault e ≡ true → e ≡ Failed
 fault_is Failed is = refl
-fault_is (Tampered region place) is = absurd (cc is)
-fault_is Sink is = absurd (cc is)
-fault_is NoMemory is = absurd (cc is)
+fault_is other is = absurd (cc is)
 
 pub not_fault : (e : OpErr) → is_fault e ≡ false → e ≡ Failed → ⊥
 not_fault e off is = cc (off, ap is_fault is)

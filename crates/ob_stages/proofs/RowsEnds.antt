@@ -49,11 +49,9 @@ use Rattle.ob_stages.proofs.RowsWay.{KnowsWay, begun_more, count_is, held_failed
 region_apart : (g : RowsAt) (stage : Stage) → is_over stage ≡ false → PlacedAt stage g → g.region ≡ Some g.q.flat.region → ⊥
 region_apart g (Count u) going at mine = absurd (cc (at.region, mine))
 region_apart g Make going at mine = absurd (cc (at.1, mine))
-region_apart g (Read pass u seen) going at mine = at.0.apart (let e : g.q.flat.region ≡ at.0.own = cc (mine, at.0.region) in e)
-region_apart g (Write pass x) going at mine = at.0.apart (let e : g.q.flat.region ≡ at.0.own = cc (mine, at.0.region) in e)
-region_apart g (Emit x) going at mine = at.0.apart (let e : g.q.flat.region ≡ at.0.own = cc (mine, at.0.region) in e)
 region_apart g Discard going at mine = at.apart (let e : g.q.flat.region ≡ at.own = cc (mine, at.region) in e)
 region_apart g Over going at mine = absurd (cc going)
+region_apart g other going at mine = at.0.apart (let e : g.q.flat.region ≡ at.0.own = cc (mine, at.0.region) in e)
 
 pub table_off : (g : RowsAt) (kept : List (List ℕ)) (events : List Event) (w : World) → Holds g kept events w → is_over g.stage ≡ false → own_or_next g.region w.vault.next g.q.flat.region → ⊥
 table_off g kept events w is going mine = elim mine [

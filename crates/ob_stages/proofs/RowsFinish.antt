@@ -29,13 +29,8 @@ use Rattle.ob_stages.specs.RowsSteps.{Answers, said, said_of, to_say, to_say_of}
 use Rattle.ob_stages.proofs.RowsShown.{leads_both}
 
 pub over_is : (stage : Stage) → is_over stage ≡ true → stage ≡ Over
-over_is (Count u) over = absurd (cc over)
-over_is Make over = absurd (cc over)
-over_is (Read pass u seen) over = absurd (cc over)
-over_is (Write pass x) over = absurd (cc over)
-over_is (Emit x) over = absurd (cc over)
-over_is Discard over = absurd (cc over)
 over_is Over over = refl
+over_is other over = absurd (cc over)
 
 -- what is held of what is seen at the end
 ended_held : (q : Selection) (slots : Slots) (pad : Option ℕ) (k n : ℕ) → selection_seen q slots ≡ seen_ended pad k → table_blocks q ≤ n → HoldsSeen q slots false n (seen_ended pad k)

@@ -68,21 +68,12 @@ module _ (q : Selection) (s : Skeleton) (flown : IsFlown q s) (k : ℕ) (most : 
 -- it has counted, and has something left to ask
 abbrev pub is_behind : Stage → Bool
 is_behind (Count u) = false
-is_behind Make = true
-is_behind (Read pass u seen) = true
-is_behind (Write pass x) = true
-is_behind (Emit x) = true
-is_behind Discard = true
 is_behind Over = false
+is_behind other = true
 
 pub behind_going : (stage : Stage) → is_behind stage ≡ true → is_over stage ≡ false
-behind_going (Count u) is = refl
-behind_going Make is = refl
-behind_going (Read pass u seen) is = refl
-behind_going (Write pass x) is = refl
-behind_going (Emit x) is = refl
-behind_going Discard is = refl
 behind_going Over is = absurd (cc is)
+behind_going other is = refl
 
 -- how far it is then
 pub record IsBehind (g : RowsAt) : Type 0 where
@@ -128,30 +119,18 @@ few_at g is stage same going = omega (arith, asked_few g is g.stage (ap is_over 
 
 -- ---- its regions
 pub own_all : (stage : Stage) (made : Option ℕ) → is_over stage ≡ false → own_at stage made ≡ made
-own_all (Count u) made going = refl
-own_all Make made going = refl
-own_all (Read pass u seen) made going = refl
-own_all (Write pass x) made going = refl
-own_all (Emit x) made going = refl
-own_all Discard made going = refl
 own_all Over made going = absurd (cc going)
+own_all other made going = refl
 
 own_some : (stage : Stage) (made : Option ℕ) (r : ℕ) → own_at stage made ≡ Some r → made ≡ Some r
-own_some (Count u) made r is = is
-own_some Make made r is = is
-own_some (Read pass u seen) made r is = is
-own_some (Write pass x) made r is = is
-own_some (Emit x) made r is = is
-own_some Discard made r is = is
 own_some Over made r is = absurd (cc is)
+own_some other made r is = is
 
 -- ---- what may turn out to be served
 goes_less : (n : ℕ) (end : End) → GoesOn (n + 1) end → GoesOn n end
-goes_less n Static goes = absurd goes
 goes_less n Whole goes = tt
-goes_less n AfterCount goes = absurd goes
-goes_less n Joined goes = absurd goes
 goes_less n (Cut m) goes = omega (arith, goes)
+goes_less n other goes = absurd goes
 
 -- it becomes this: one access more was asked
 abbrev pub stepped : RowsAt → Stage → (region : Option ℕ) → (k shown booked : ℕ) → Seen → RowsAt
@@ -161,21 +140,13 @@ stepped g stage region k shown booked seen =
 -- of one that counts
 pub may_counting : (g : RowsAt) (u : ℕ) (stage : Stage) (region : Option ℕ) (k n b : ℕ) (x seen : Seen) → GoesOn g.asked seen.end → MaySee stage (stepped g stage region k n b seen) x → MaySee (Count u) g x
 may_counting g u (Count v) region k n b x seen goes may = goes_less g.asked x.end may
-may_counting g u Make region k n b x seen goes may = goes_less g.asked x.end may.0
-may_counting g u (Read pass v s) region k n b x seen goes may = goes_less g.asked x.end may.0
-may_counting g u (Write pass v) region k n b x seen goes may = goes_less g.asked x.end may.0
-may_counting g u (Emit v) region k n b x seen goes may = goes_less g.asked x.end may.0
-may_counting g u Discard region k n b x seen goes may = goes_less g.asked x.end may.0
 may_counting g u Over region k n b x seen goes may = subst (λ (s : Seen). GoesOn g.asked s.end) (sym may) goes
+may_counting g u other region k n b x seen goes may = goes_less g.asked x.end may.0
 
 pub see_of : (g : RowsAt) (stage : Stage) → is_behind stage ≡ true → (x : Seen) → MayTake g x → MaySee stage g x
 see_of g (Count u) behind x may = absurd (cc behind)
-see_of g Make behind x may = may
-see_of g (Read pass u seen) behind x may = may
-see_of g (Write pass v) behind x may = may
-see_of g (Emit v) behind x may = may
-see_of g Discard behind x may = may
 see_of g Over behind x may = absurd (cc behind)
+see_of g other behind x may = may
 
 -- of one that has counted, whose end is another
 pub takes_same : (pad : Option ℕ) (k : ℕ) (x y : Seen) → x.k ≡ y.k → x.plan ≡ y.plan → x.then ≡ y.then → Takes pad k y → Takes pad k x
@@ -188,15 +159,11 @@ AlikeSeen x y = (x.k ≡ y.k) × (x.plan ≡ y.plan) × (x.then ≡ y.then)
 pub may_behind : (g : RowsAt) (done : ℕ) → HasCounted g done → (stage : Stage) → (region : Option ℕ) (n b : ℕ) (x seen : Seen) → ((u : ℕ) → stage ≡ Count u → ⊥) → AlikeSeen seen g.seen → GoesOn g.asked seen.end
     → MaySee stage (stepped g stage region g.k n b seen) x → MayTake g x
 may_behind g done at (Count u) region n b x seen off alike goes may = absurd (off u refl)
-may_behind g done at Make region n b x seen off alike goes may = (goes_less g.asked x.end may.0, may.1)
-may_behind g done at (Read pass u s) region n b x seen off alike goes may = (goes_less g.asked x.end may.0, may.1)
-may_behind g done at (Write pass u) region n b x seen off alike goes may = (goes_less g.asked x.end may.0, may.1)
-may_behind g done at (Emit u) region n b x seen off alike goes may = (goes_less g.asked x.end may.0, may.1)
-may_behind g done at Discard region n b x seen off alike goes may = (goes_less g.asked x.end may.0, may.1)
 may_behind g done at Over region n b x seen off alike goes may =
     let taken_seen = takes_seen g.q.public.pad g.k g.seen at.seen in
     subst (λ (s : Seen). GoesOn g.asked s.end × Takes g.q.public.pad g.k s) (sym may)
     (goes, takes_same g.q.public.pad g.k seen g.seen alike.0 alike.1 alike.2 taken_seen)
+may_behind g done at other region n b x seen off alike goes may = (goes_less g.asked x.end may.0, may.1)
 
 -- ---- what was done
 -- one access was asked, and its region is as it was

@@ -163,13 +163,10 @@ module _ (g : RowsAt) (s : Skeleton) (flown : IsFlown g.q s) (w : World) (slots 
         (subst (Begun (events_if (is_shown (passes_pad g) x) g.q is.rows)) whole (passed_or (passes_pad g) refl))
 
   begun_at : (kept : List (List ℕ)) (events : List Event) (stage : Stage) → is_over stage ≡ false → HoldsAt stage g kept events w → Begun events (answer_events g.q slots)
-  begun_at kept events (Count u) going is = begun_none events (answer_events g.q slots) is.0
-  begun_at kept events Make going is = begun_none events (answer_events g.q slots) is.0
-  begun_at kept events (Read pass u seen) going is = begun_none events (answer_events g.q slots) is.0
-  begun_at kept events (Write pass x) going is = begun_none events (answer_events g.q slots) is.0
   begun_at kept events (Emit x) going is = shown_begun x events is.1 is.0
   begun_at kept events Discard going is = shown_begun (Smalls.results (small g.q g.k)) events is.1 is.0
   begun_at kept events Over going is = absurd (cc going)
+  begun_at kept events other going is = begun_none events (answer_events g.q slots) is.0
 
 -- what is known of one on its way
 pub record KnowsWay (g : RowsAt) (events : List Event) (slots : Slots) : Type 0 where
@@ -190,10 +187,7 @@ begun_shape true q rows events is = inr (rows, is)
 begun_shape false q rows events is = inl is
 
 pub shape_of : (g : RowsAt) (kept : List (List ℕ)) (events : List Event) (w : World) (stage : Stage) → is_over stage ≡ false → HoldsAt stage g kept events w → HasBegun g.q events
-shape_of g kept events w (Count u) going is = inl is.0
-shape_of g kept events w Make going is = inl is.0
-shape_of g kept events w (Read pass u seen) going is = inl is.0
-shape_of g kept events w (Write pass x) going is = inl is.0
 shape_of g kept events w (Emit x) going is = begun_shape (is_shown (passes_pad g) x) g.q is.1.rows events is.1.is
 shape_of g kept events w Discard going is = begun_shape (is_shown (passes_pad g) (Smalls.results (small g.q g.k))) g.q is.1.rows events is.1.is
 shape_of g kept events w Over going is = absurd (cc going)
+shape_of g kept events w other going is = inl is.0

@@ -212,10 +212,8 @@ prints_rows labels rows = record { printed = rows; same = Same-refl rows; is = r
 
 -- nothing is a first part of every answer
 pub partly_none : (labels : List (List ℕ)) (answer : Answer) → Partly labels answer []
-partly_none labels A.Done = record { whole = []; prints = refl; begun = ([], refl) }
-partly_none labels (A.Changed n) = record { whole = []; prints = refl; begun = ([], refl) }
 partly_none labels (A.Rows rows) = record { whole = all_events labels rows; prints = prints_rows labels rows; begun = (all_events labels rows, refl) }
-partly_none labels (A.Refused r) = record { whole = []; prints = refl; begun = ([], refl) }
+partly_none labels other = record { whole = []; prints = refl; begun = ([], refl) }
 
 -- a first part of its events
 pub partly_rows : (labels : List (List ℕ)) (answer : Answer) (rows : List (List Shown)) (events : List Event) → answer ≡ A.Rows rows → Begun events (all_events labels rows) → Partly labels answer events

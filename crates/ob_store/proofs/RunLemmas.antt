@@ -33,16 +33,12 @@ raised_is n (Write q x) (Read r y) is = absurd (cc is)
 raised_is n (Write q x) (Make r b l) is = absurd (cc is)
 raised_is n (Write q x) (Discard r) is = absurd (cc is)
 raised_is n (Write q x) (Open r b l) is = absurd (cc is)
-raised_is n (Make q b l) a is = absurd (cc is)
-raised_is n (Discard q) a is = absurd (cc is)
-raised_is n (Open q b l) a is = absurd (cc is)
+raised_is n other a is = absurd (cc is)
 
 raised_zero : (a : Access) → raised 0 a ≡ a
 raised_zero (Read q x) = ap (Read q) (add-zero x)
 raised_zero (Write q x) = ap (Write q) (add-zero x)
-raised_zero (Make q b l) = refl
-raised_zero (Discard q) = refl
-raised_zero (Open q b l) = refl
+raised_zero other = refl
 
 pub entry_one : (a : Access) → entry (a ∷ []) 0 ≡ a
 entry_one a = raised_zero a

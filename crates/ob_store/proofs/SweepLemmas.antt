@@ -1,5 +1,9 @@
 -- What is left of a region once those that aren't live are taken out.
-use Rattle.std.proofs.Common.{◌≡◌, ◌≢◌, Bool, true, false, if◌then◌else◌, Option, Some, None, refl, ◌∙◌, ap}
+use Rattle.std.proofs.Common.{◌≡◌, ◌≢◌, ℕ, Bool, true, false, if◌then◌else◌, List, [], ◌∷◌, length, Option, Some, None, refl, ◌∙◌, ap, arith}
+use Rattle.std.proofs.lemmas.Bool.Decides.{nat_tests}
+use Rattle.std.specs.BTreeMap.{BTreeMap, btree_map_len, get, is_at}
+use Rattle.std.specs.Map.{lookup}
+use Rattle.std.specs.Ordering.{nat_cmp}
 use Rattle.ob_store.specs.State.{KeptRegion}
 use Rattle.ob_store.specs.Memory.{kept_of, live_shape, shape_of}
 use Rattle.ob_store.specs.declared.blocks.Blocks.{Blocks}
@@ -23,3 +27,14 @@ shapeless (Some b) none = absurd (cc none)
 pub region_goes : (live : Bool) (old new : Option Blocks) → live_shape live old ≡ None → new ≡ (if live then old else None) → (region : KeptRegion) → kept_of new ≡ Some region → region.given_up ≡ true
 region_goes true old new none is region kept = none_kept new region (is ∙ shapeless old none) kept
 region_goes false old new none is region kept = none_kept new region is kept
+
+-- ---- where no region is kept
+finds_itself : (q : ℕ) → is_at (nat_cmp q) q ≡ true
+finds_itself q = grind (arith, nat_tests)
+
+bare_entries : (entries : List (ℕ × Blocks)) → ((q : ℕ) → kept_of (lookup (is_at (nat_cmp q)) entries) ≡ None) → length entries ≡ 0
+bare_entries [] none = refl
+bare_entries (e ∷ rest) none = absurd (cc (none e.0, finds_itself e.0))
+
+pub bare_is_empty : (regions : BTreeMap ℕ Blocks) → ((q : ℕ) → kept_of (get nat_cmp regions q) ≡ None) → btree_map_len regions ≡ 0
+bare_is_empty regions none = bare_entries regions.entries none

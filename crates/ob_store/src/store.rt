@@ -1,5 +1,6 @@
-ghost use Rattle.std.specs.Prelude.{◌≡◌, ◌⊎◌, ◌<◌, ◌≤◌, ℕ, IsTrue, [], Some, None, length, slice_get, true, IfOk, OnOk, OnErr};
+ghost use Rattle.std.specs.Prelude.{◌≡◌, ◌⊎◌, ◌<◌, ◌≤◌, ℕ, Option, IsTrue, [], Some, None, length, slice_get, true, IfOk, OnOk, OnErr};
 ghost use Rattle.ob_store.specs.State.{KeptRegion, Shape, StoreState};
+ghost use Rattle.ob_store.specs.declared.given.GivenUp.{GivenUp as LastGivenUp};
 ghost use Rattle.ob_base.specs.Accesses.{highest};
 ghost use Rattle.ob_store.specs.Calls.{IsBare, IsBounded, IsLive, IsPlace, IsGivenUp, KeepsLive, Reopens, Resumes, Asks, CountsFault, CountsSlip, CountsMakeFault, Keeps, Makes, ReadGives, OnlyAt, Holds, MayHold, OnlyRegion, ChangesNothing, IsSteady, Sweeps, Syncs, without_list};
 
@@ -18,12 +19,16 @@ use ob_base::{Access, Failed, NoMemory, StoreErr};
 pub trait BlockStore {
     ghost state: { Self → StoreState };
 
+    /// What was given up last, if anything was.
+    ghost given_up: { Self → Option LastGivenUp };
+
     /// Makes room for `n` more accesses in the list.
     ///
     /// `NoMemory` leaves the store as it was.
     fn room(&mut self, n: u64) -> Result<(), NoMemory>
         ensures rests { ChangesNothing (state self.old) (state self.new) }
-        ensures spare { OnOk result (n ≤ (state self.new).spare) };
+        ensures spare { OnOk result (n ≤ (state self.new).spare) }
+        ensures same { given_up self.new ≡ given_up self.old };
 
     /// Makes a region of `blocks` blocks (1 to 134,217,728) of `len` bytes each (33 to 16,416).
     ///
@@ -39,7 +44,8 @@ pub trait BlockStore {
         ensures slips { (state self.new).slips ≡ (state self.old).slips }
         ensures ok { OnOk result (Makes region blocks len (state self.old) (state self.new)) }
         ensures err { OnErr result (Keeps (state self.old) (state self.new)) }
-        ensures lie { (state self.new).lie ≡ (state self.old).lie };
+        ensures lie { (state self.new).lie ≡ (state self.old).lie }
+        ensures same { given_up self.new ≡ given_up self.old };
 
     /// Reads the block at a place of a live region into `buf`, which has the length of its blocks.
     ///
@@ -54,7 +60,8 @@ pub trait BlockStore {
         ensures ok { OnOk result
             (ReadGives region place buf.new (state self.old) (state self.new)) }
         ensures gave { OnOk result ((state self.new).gave ≡ buf.new) }
-        ensures err { OnErr result ((state self.new).lie ≡ (state self.old).lie) };
+        ensures err { OnErr result ((state self.new).lie ≡ (state self.old).lie) }
+        ensures same { given_up self.new ≡ given_up self.old };
 
     /// Writes a block at a place of a live region.
     ///
@@ -69,7 +76,8 @@ pub trait BlockStore {
         ensures ok { OnOk result (Holds region place block.now (state self.old) (state self.new)) }
         ensures err { OnErr result
             (MayHold region place block.now (state self.old) (state self.new)) }
-        ensures lie { (state self.new).lie ≡ (state self.old).lie };
+        ensures lie { (state self.new).lie ≡ (state self.old).lie }
+        ensures same { given_up self.new ≡ given_up self.old };
 
     /// Takes a live region out of the store.
     ///
@@ -85,22 +93,25 @@ pub trait BlockStore {
         ensures err { OnErr result
             (((state self.new).live region ≡ None) ⊎ Keeps (state self.old) (state self.new)) }
         ensures given_up { (state self.new).live region ≡ None → IsGivenUp region (state self.new) }
-        ensures lie { (state self.new).lie ≡ (state self.old).lie };
+        ensures lie { (state self.new).lie ≡ (state self.old).lie }
+        ensures same { given_up self.new ≡ given_up self.old };
 
     /// Gives up the regions from this number on: nobody will ask for them any more.
     ///
     /// It is no access, and can't fail. A store that has better use for their room frees it, whether they were taken
     /// out or not; a later call at one of them may fail.
-    fn give_up(&mut self, _from: u64)
+    fn give_up(&mut self, from: u64)
         ensures same { state self.new ≡ state self.old }
-    {}
+        ensures given_up { given_up self.new
+            ≡ Some (record { from = from; asked = length (state self.old).asked }) };
 
     /// Has the list let go of the accesses so far: from here on it has those behind them alone.
     ///
     /// It is no access, takes no memory, and can't fail.
     fn let_go(&mut self)
         ensures is { state self.new ≡ without_list (state self.new).spare (state self.old) }
-        ensures spare { (state self.old).spare ≤ (state self.new).spare };
+        ensures spare { (state self.old).spare ≤ (state self.new).spare }
+        ensures same { given_up self.new ≡ given_up self.old };
 
     /// How many accesses were asked so far.
     fn count(&self) -> u64
@@ -156,7 +167,8 @@ pub trait Lasting: BlockStore {
         ensures ok { OnOk result (Resumes region blocks len
             (Self.state self.old) (Self.state self.new)) }
         ensures err { OnErr result
-            (Keeps (Self.state self.old) (Self.state self.new)) };
+            (Keeps (Self.state self.old) (Self.state self.new)) }
+        ensures same { Self.given_up self.new ≡ Self.given_up self.old };
 }
 
 /// A store whose regions outlast a crash once it says so, and that is rid of those that nobody wants.
@@ -168,16 +180,21 @@ pub trait Saving: Lasting {
     /// After `Failed` some of it may be gone, though no call said so: it is of no use to try again.
     fn sync(&mut self) -> Result<(), Failed>
         ensures syncs { Syncs (Self.state self.old) (Self.state self.new) }
-        ensures cause { CountsFault result (Self.state self.old) (Self.state self.new) };
+        ensures cause { CountsFault result (Self.state self.old) (Self.state self.new) }
+        ensures same { Self.given_up self.new ≡ Self.given_up self.old };
 
     /// Whether there is no region, of this run or an earlier one. A store that tells says so of what it keeps.
     fn is_bare(&mut self) -> Result<bool, Failed>
         ensures syncs { Syncs (Self.state self.old) (Self.state self.new) }
         ensures cause { CountsFault result (Self.state self.old) (Self.state self.new) }
         ensures bare { IfOk result (λ bare. bare ≡ true → IsTrue (Self.state self.old).tells
-            → IsBare (Self.state self.old)) };
+            → IsBare (Self.state self.old)) }
+        ensures empty { IfOk result (λ bare. IsTrue (Self.state self.old).tells
+            → IsBare (Self.state self.old) → bare ≡ true) }
+        ensures same { Self.given_up self.new ≡ Self.given_up self.old };
 
     /// Takes out each region of an earlier run that isn't live again, as far as that can be done.
     fn sweep(&mut self)
-        ensures sweeps { Sweeps (Self.state self.old) (Self.state self.new) };
+        ensures sweeps { Sweeps (Self.state self.old) (Self.state self.new) }
+        ensures same { Self.given_up self.new ≡ Self.given_up self.old };
 }

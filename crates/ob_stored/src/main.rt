@@ -1,5 +1,5 @@
 //! Reads lines from standard input, each of the name of a reader and a text, and prints them with what comes of the text:
-//! tags, sealed blocks, rows, marks, changes, and what stores answer to calls. Blank lines, and lines that begin with `#`,
+//! tags, check values, sealed blocks, rows, marks, changes, and what stores answer to calls. Blank lines, and lines that begin with `#`,
 //! are printed as they stand.
 #![tactic(auto)]
 
@@ -25,6 +25,7 @@ fn read(alloc: Global, out: &mut String, reader: &str, text: &str) -> Result<(),
         "fresh" => marks::fresh(alloc, out),
         "region" => marks::region(out, text),
         "tag" => sealing::tagged(alloc, out, text),
+        "value" => sealing::checked(alloc, out, text),
         "words" => sealing::words(out),
         "draws" => sealing::draws(out),
         "row" => rows::read(alloc, out, text),

@@ -1,7 +1,7 @@
 //! Lines of marks, and names of regions' files.
 use crate::bytes::{put, spelled_by};
-use ob_base::Mark;
 use ob_file::{mark_of, region_in, spell};
+use ob_reopen::Mark;
 use std::alloc::{AllocError, Global};
 
 // The line that a mark is spelt as.
@@ -44,10 +44,13 @@ fn put_mark(out: &mut String, mark: &Mark) -> Result<(), AllocError> {
             number,
             pack,
             salt,
+            check,
         } => {
             put_closing(out, *region, *blocks, *number, u32::from(*pack))?;
             out.push_str(", salt ")?;
-            put(out, salt)
+            put(out, salt)?;
+            out.push_str(", check ")?;
+            put(out, check)
         }
     }
 }
@@ -80,7 +83,7 @@ pub fn fresh(alloc: Global, out: &mut String) -> Result<(), AllocError> {
 pub fn region(out: &mut String, text: &str) -> Result<(), AllocError> {
     let (first, name) = text.split_once(':').unwrap_or((text, ""));
     match region_in(name.as_bytes(), first) {
-        Some(digits) => out.push_str(digits),
+        Some(region) => write!(out, "{region}"),
         None => out.push_str("none"),
     }
 }

@@ -1,9 +1,11 @@
-//! Tags, sealed blocks, the keys of runs that have a salt, and draws.
+//! Tags, sealed blocks, the keys of runs that have a salt, with their check values, and draws.
 ghost use Rattle.std.specs.Prelude.{◌≤◌, length};
 
 use crate::bytes::{narrow, number, parted, put, spelled_by};
 use ob_hmac::{MacKey, tag};
-use ob_seal::{At, Draws, Keys, Salted, check, finish, seal, seal_part, unseal, unseal_part};
+use ob_seal::{
+    At, Draws, Keys, Salted, check, check_value, finish, seal, seal_part, unseal, unseal_part,
+};
 use rand_chacha::ChaCha20Rng;
 use rand_core::SeedableRng;
 use rand_core::utils::NextWord;
@@ -63,6 +65,15 @@ pub fn tagged(alloc: Global, out: &mut String, text: &str) -> Result<(), AllocEr
     Ok(())
 }
 
+/// Writes the check value of a secret for a run's salt, which are parted by `|`.
+pub fn checked(alloc: Global, out: &mut String, text: &str) -> Result<(), AllocError> {
+    let (secret, salt) = text.split_once('|').unwrap_or((text, ""));
+    let secret = key_of(spelled_by(alloc, secret)?.as_slice());
+    let mut bytes = [0; 16];
+    copy_bytes(&mut bytes, spelled_by(alloc, salt)?.as_slice());
+    put(out, &check_value(&secret, &bytes))
+}
+
 /// Writes the first words of the key stream of zeros.
 pub fn words(out: &mut String) -> Result<(), AllocError> {
     let mut words = ChaCha20Rng::from_seed([0; 32]);
@@ -102,6 +113,7 @@ pub fn keyed(alloc: Global, out: &mut String, reader: &str, text: &str) -> Resul
             Some(salt) => put(out, &salt),
             None => out.push_str("none"),
         },
+        "check" => put(out, &keys.check_of(number(text))),
         _ => at_place(alloc, out, &keys, reader, text),
     }
 }

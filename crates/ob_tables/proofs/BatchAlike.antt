@@ -1,18 +1,8 @@
 -- What INSERTs of a batch are answered by other settings and behind other accesses, where the tables have the same headings.
-use Rattle.std.proofs.Common.{◌≡◌, ℕ, Bool, List, [], ◌∷◌, Option, sym, ◌∙◌, ap, subst}
+use Rattle.ob_tables.proofs.Words.{All-head, All-tail, ap, AreServedWith, Bool, early_refusal, Heading, headings_of, is_late, limits_of, List, Option, Outcome, Public, Refusal, refusal_now, Stmt, subst, sym, ℕ, [], ◌∙◌, ◌∷◌, ◌≡◌}
 use Rattle.std.specs.Prelude.{All}
-use Rattle.std.proofs.lemmas.List.Elements.{All-head, All-tail}
-use Rattle.ob_base.specs.declared.config.Public.{Public}
-use Rattle.ob_base.specs.declared.refusal.Refusal.{Refusal}
-use Rattle.ob_base.specs.declared.schema.Heading.{Heading}
-use Rattle.ob_base.specs.Stored.{headings_of}
-use Rattle.ob_mean.specs.Refusals.{early_refusal, limits_of}
-use Rattle.ob_mean.specs.Verdict.{is_late}
 use Rattle.ob_mean.proofs.BatchLemmas.{Inserts, early_like}
-use Rattle.ob_sql.specs.declared.stmt.Stmt.{Stmt}
-use Rattle.ob_verdict.specs.declared.outcome.Outcome.{Outcome}
-use Rattle.ob_verdict.specs.Outcomes.{refusal_now}
-use Rattle.ob_tables.specs.Batch.{AreServedWith, IsServedWith}
+use Rattle.ob_tables.specs.Batch.{IsServedWith}
 
 module _ (p q : Public) (m n : ℕ) (late : is_late m ≡ is_late n) (same : headings_of p.tables ≡ headings_of q.tables) where
   pub refusal_alike : (stmt : Stmt) → Inserts stmt → refusal_now p m stmt ≡ refusal_now q n stmt

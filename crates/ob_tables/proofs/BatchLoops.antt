@@ -1,18 +1,12 @@
 -- The rows and the outcomes of a batch, one after the other.
-use Rattle.std.proofs.Common.{◌≡◌, ◌<◌, ◌≤◌, ◌+◌, ◌^◌, ◌++◌, ℕ, Bool, Option, Some, None, List, [], ◌∷◌, length, map, take, drop, get_or, slice_set, refl, sym, ◌∙◌, ap, arith, append_assoc}
+use Rattle.ob_tables.proofs.Words.{ap, append-nil, append_assoc, arith, Bool, Columns, drop, failed_by, get_or, given_all, inserted_as, length, length-append, List, map, None, Option, Outcome, Public, refl, Refusal, refusal_by, rows_in, slice_set, Some, Stmt, sym, take, ℕ, [], ◌++◌, ◌+◌, ◌<◌, ◌^◌, ◌∙◌, ◌∷◌, ◌≡◌, ◌≤◌}
 use Rattle.std.specs.List.{cons_option}
-use Rattle.std.proofs.lemmas.List.{append-nil, length-append, drop_all, drop_more, map_more, take_all, take_more, take_more_set}
+use Rattle.std.proofs.lemmas.List.{drop_all, drop_more, map_more, take_all, take_more, take_more_set}
 use Rattle.std.proofs.lemmas.List.Elements.{filter_map-append}
-use Rattle.ob_base.specs.declared.config.Public.{Public}
-use Rattle.ob_base.specs.declared.refusal.Refusal.{Refusal}
-use Rattle.ob_base.specs.Schemas.{Columns}
 use Rattle.ob_mutate.specs.declared.inserting.Inserted.{Inserted}
 use Rattle.ob_row.specs.Rows.{Row}
-use Rattle.ob_sql.specs.declared.stmt.Stmt.{Stmt}
-use Rattle.ob_verdict.specs.declared.outcome.Outcome.{Outcome}
 use Rattle.ob_verdict.specs.declared.outcome.Outcome.TheVariants.{Inserted as InsertedOut}
-use Rattle.ob_tables.specs.Batch.{answers_behind, failed_by, given_all, given_next, refusal_by, row_of, row_unless, rows_in}
-use Rattle.ob_tables.specs.Running.{inserted_as}
+use Rattle.ob_tables.specs.Batch.{answers_behind, given_next, row_of, row_unless}
 
 -- ---- the rows
 -- an INSERT that is refused before any access adds none

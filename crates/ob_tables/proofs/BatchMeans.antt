@@ -1,43 +1,25 @@
 -- What INSERTs mean that are served together.
-use Rattle.std.proofs.Common.{◌≡◌, ℕ, suc, Bool, true, false, if◌then◌else◌, List, [], ◌∷◌, length, Option, Some, None, refl, sym, ◌∙◌, ap, subst, arith}
-use Rattle.std.specs.Prelude.{All, bytes_eq, map}
+use Rattle.ob_tables.proofs.Words.{accepted_answer, All-head, All-tail, Answer, ap, AreFit, AreServedWith, arith, Bool, bytes_eq, changed_at, Column, database, Done, Draws, early_refusal, failed_by, false, FitsColumns, given_all, has_index, has_repeats, Heading, heading_at, headings, headings_of, Held, if◌then◌else◌, in_slots, inserted_as, is_late, IsCell, length, limits_of, List, map, None, Option, option_map, Outcome, outcome_of, Public, refl, Refusal, refusal_by, refusal_now, Refused, rows_in, settle, settle_all, skeleton, Slots, Some, Stmt, Stored, stored_at, subst, suc, sym, Tables, true, verdict, ℕ, [], ◌∙◌, ◌∷◌, ◌≡◌}
+use Rattle.std.specs.Prelude.{All}
 use Rattle.std.specs.List.{cons_option}
-use Rattle.std.specs.Option.{option_map}
-use Rattle.std.proofs.lemmas.List.Elements.{All-cons, All-head, All-nil, All-tail}
-use Rattle.ob_base.specs.declared.config.Public.{Public}
-use Rattle.ob_base.specs.declared.refusal.Refusal.{Refusal}
-use Rattle.ob_base.specs.declared.schema.Column.{Column}
-use Rattle.ob_base.specs.declared.schema.Heading.{Heading}
-use Rattle.ob_base.specs.Lists.{has_repeats}
+use Rattle.std.proofs.lemmas.List.Elements.{All-cons, All-nil}
 use Rattle.ob_base.specs.declared.schema.Shape.TheVariants.{Flat}
-use Rattle.ob_base.specs.Stored.{Stored, changed_at, heading_at, headings, headings_of, stored_at}
-use Rattle.ob_mean.specs.declared.answer.Answer.{Answer}
-use Rattle.ob_mean.specs.Batches.{inserts_into, settle_all, verdicts}
-use Rattle.ob_mean.specs.Refusals.{early_refusal, limits_of}
-use Rattle.ob_mean.specs.Replay.{has_index}
-use Rattle.ob_mean.specs.Settle.{settle}
-use Rattle.ob_mean.specs.Step.{accepted_answer, answered, new_row}
-use Rattle.ob_mean.specs.Verdict.{Draws, Held, Tables, database, in_slots, is_late, verdict}
+use Rattle.ob_mean.specs.Batches.{inserts_into, verdicts}
+use Rattle.ob_mean.specs.Step.{answered, new_row}
 use Rattle.ob_mean.proofs.BatchLemmas.{settle_refused}
 use Rattle.ob_mean.proofs.InsertLemmas.{insert_fits}
 use Rattle.ob_mean.proofs.VerdictLemmas.{refused_early}
 use Rattle.ob_mutate.specs.declared.inserting.Inserted.{Inserted}
-use Rattle.ob_mutate.specs.declared.inserting.Inserted.TheVariants.{Done, Duplicate, Full}
-use Rattle.ob_mutate.specs.Batches.{AreFit, insert_answers, inserted_all, inserted_one}
+use Rattle.ob_mutate.specs.declared.inserting.Inserted.TheVariants.{Duplicate, Full}
+use Rattle.ob_mutate.specs.Batches.{insert_answers, inserted_all, inserted_one}
 use Rattle.ob_mutate.specs.Inserting.{insert_answer, slots_after}
 use Rattle.ob_row.specs.Rows.{Row}
-use Rattle.ob_row.specs.Slots.{Slots, fill_first}
-use Rattle.ob_row.specs.Spelling.{FitsColumns, IsCell}
+use Rattle.ob_row.specs.Slots.{fill_first}
 use Rattle.ob_sql.specs.declared.stmt.Literal.{Literal}
-use Rattle.ob_sql.specs.declared.stmt.Stmt.{Stmt}
 use Rattle.ob_sql.specs.declared.stmt.Stmt.TheVariants.{Create, Insert, Update, Delete, Drop as DropTable, SelectRows as RowsStmt, SelectTotals as TotalsStmt}
-use Rattle.ob_sql.specs.Skeleton.{skeleton}
-use Rattle.ob_verdict.specs.declared.outcome.Outcome.{Outcome}
-use Rattle.ob_verdict.specs.declared.outcome.Outcome.TheVariants.{Inserted as InsertedOut, Refused}
-use Rattle.ob_verdict.specs.Outcomes.{outcome_of, refusal_now}
+use Rattle.ob_verdict.specs.declared.outcome.Outcome.TheVariants.{Inserted as InsertedOut}
 use Rattle.ob_verdict.proofs.AlikeTables.{changed_here, headings_changed, with_slots}
-use Rattle.ob_tables.specs.Batch.{AnswersRow, AreServedWith, IsServedWith, answers_behind, failed_by, given_all, given_next, outcomes_of, refusal_by, row_of, row_unless, rows_in}
-use Rattle.ob_tables.specs.Running.{inserted_as}
+use Rattle.ob_tables.specs.Batch.{AnswersRow, IsServedWith, answers_behind, given_next, outcomes_of, row_of, row_unless}
 use Rattle.ob_tables.proofs.HeldLemmas.{changed_same, not_accessed}
 use Rattle.ob_tables.proofs.InsertLemmas.{insert_meant}
 
@@ -48,13 +30,8 @@ pub record IsInsert (name : List ℕ) (stmt : Stmt) : Type 0 where
   pub is : stmt ≡ Insert name columns values
 
 pub insert_is : (name : List ℕ) (stmt : Stmt) → inserts_into (skeleton stmt) ≡ Some name → IsInsert name stmt
-insert_is name (Create table columns capacity shape) is = absurd (cc is)
 insert_is name (Insert table columns values) is = record { columns = columns; values = values; is = let same : table ≡ name = cc is in λ i. Insert (same i) columns values }
-insert_is name (Update table sets search) is = absurd (cc is)
-insert_is name (Delete table search) is = absurd (cc is)
-insert_is name (DropTable table) is = absurd (cc is)
-insert_is name (RowsStmt q) is = absurd (cc is)
-insert_is name (TotalsStmt q) is = absurd (cc is)
+insert_is name other is = absurd (cc is)
 
 -- ---- slots
 fill_length : (row : Row) (slots : Slots) → length (fill_first row slots) ≡ length slots

@@ -1,82 +1,37 @@
 -- INSERTs were carried out that are served together.
-use Rattle.std.proofs.Common.{◌≡◌, get_or, ◌<◌, ◌≤◌, ◌+◌, ◌-◌, ◌^◌, ℕ, Bool, true, false, List, [], ◌∷◌, ◌++◌, length, map, Option, Some, None, Ok, Err, Result, refl, sym, ◌∙◌, ap, subst, arith}
-use Rattle.std.specs.Prelude.{All, IfOk, IsSome, ⊤, drop, filter_map, max, min}
+use Rattle.ob_tables.proofs.Words.{Agrees, All-head, All-tail, allowed, answer_of, ap, AreFit, AreServedWith, arith, Bool, by_fault, bytes_eq, changed_at, Column, Columns, copy_part, count_of, count_part, Cut, Done, Draws, drop, early_refusal, Engine, Err, failed_by, false, FitsColumns, Former, former_of, get_or, given_all, has_index, has_repeats, has_table, HasNoRows, Heading, heading_at, headings, headings_of, Held, IfOk, in_slots, insert_part, inserted_as, is_access, is_fault, is_late, is_stop, IsCell, IsSome, length, limits_of, List, MakesFlat, map, max, None, Ok, OpErr, Option, option_map_or, Outcome, outcome_of, Public, ReadsTrue, refl, Refusal, refusal_by, refusal_now, Result, RevState, RoomState, rows_in, RunStop, selects_rows, ServesSilently, settle, settle_all, skeleton, slice_set, Slots, Some, Stmt, Stored, stored_at, StoreState, subst, sym, Tables, true, UsesRoom, Vault, verdict, Whole, world_of, ℕ, [], ◌++◌, ◌+◌, ◌-◌, ◌<◌, ◌^◌, ◌∙◌, ◌∷◌, ◌≡◌, ◌≤◌}
+use Rattle.std.specs.Prelude.{All, ⊤, filter_map, min}
 use Rattle.std.specs.List.{cons_option}
-use Rattle.std.specs.Option.{option_map_or}
 use Rattle.std.proofs.lemmas.Bool.{lt-leb}
-use Rattle.ob_base.specs.declared.config.Public.{Public}
-use Rattle.ob_base.specs.declared.refusal.Refusal.{Refusal}
-use Rattle.ob_base.specs.declared.schema.Heading.{Heading}
 use Rattle.ob_base.specs.declared.schema.Shape.TheVariants.{Flat as FlatShape}
-use Rattle.ob_base.specs.Schemas.{Columns}
-use Rattle.ob_base.specs.Stored.{Stored, changed_at, has_table, heading_at, headings, headings_of, stored_at}
-use Rattle.ob_script.specs.Parts.{count_part, copy_part, insert_part}
-use Rattle.ob_store.specs.State.{StoreState}
-use Rattle.ob_vault.specs.State.{RevState}
-use Rattle.ob_flat.specs.declared.fault.OpErr.{OpErr}
 use Rattle.ob_flat.specs.declared.fault.OpErr.TheVariants as OpErrs
 use Rattle.ob_mutate.specs.declared.inserting.Inserted.{Inserted}
-use Rattle.ob_mutate.specs.declared.inserting.Inserted.TheVariants.{Done, Duplicate, Full}
+use Rattle.ob_mutate.specs.declared.inserting.Inserted.TheVariants.{Duplicate, Full}
 use Rattle.ob_mutate.specs.Batches.{insert_answers, inserted_all}
 use Rattle.ob_row.specs.Rows.{Row}
-use Rattle.ob_row.specs.Slots.{Slots}
-use Rattle.ob_sql.specs.declared.stmt.Stmt.{Stmt}
 use Rattle.ob_sql.specs.declared.stmt.Stmt.TheVariants.{Insert}
-use Rattle.ob_sql.specs.Skeleton.{skeleton}
-use Rattle.ob_mean.specs.Batches.{batch_most, inserts_into, settle_all, verdicts}
-use Rattle.ob_mean.specs.Refusals.{early_refusal, limits_of}
-use Rattle.ob_mean.specs.Replay.{has_index, is_access}
-use Rattle.ob_mean.specs.Settle.{settle}
-use Rattle.ob_mean.specs.Verdict.{Draws, Held, Tables, in_slots, is_late, verdict}
+use Rattle.ob_mean.specs.Batches.{batch_most, inserts_into, verdicts}
 use Rattle.ob_mean.proofs.BatchLemmas.{Begins, begins}
-use Rattle.ob_mean.proofs.EarlyLemmas.{allowed}
-use Rattle.ob_verdict.specs.declared.outcome.Outcome.{Outcome}
 use Rattle.ob_verdict.specs.declared.outcome.Outcome.TheVariants.{Inserted as InsertedOut}
-use Rattle.ob_verdict.specs.Outcomes.{by_fault, outcome_of, refusal_now}
-use Rattle.ob_tables.specs.declared.engine.Engine.{Engine}
-use Rattle.ob_tables.specs.declared.stop.RunStop.{RunStop}
-use Rattle.ob_tables.specs.Agreeing.{count_of}
-use Rattle.ob_tables.specs.Batch.{AreBatch, AreServedWith, ServesBatch, answers_behind, failed_by, given_all, given_next, outcomes_behind, outcomes_of, refusal_by, row_of, row_unless, rows_in}
-use Rattle.ob_tables.specs.Running.{HasNoRows, answer_of, inserted_as, is_fault}
-use Rattle.ob_tables.specs.Serving.{ServesSilently}
-use Rattle.ob_tables.specs.Telling.{ReadsTrue}
+use Rattle.ob_tables.specs.Batch.{AreBatch, ServesBatch, answers_behind, given_next, outcomes_behind, outcomes_of, row_of, row_unless}
 use Rattle.ob_tables.proofs.BatchLoops.{rows_few}
-use Rattle.ob_tables.proofs.BatchMeans.{IsInsert, StandsIn, all_failed, all_given, change_by, changed_twice, insert_is, means_rows, names_it, puts}
-use Rattle.ob_tables.proofs.FoundLemmas.{is_there}
+use Rattle.ob_tables.proofs.BatchMeans.{IsInsert, StandsIn, all_failed, all_given, change_by, changed_twice, insert_is, means_rows, names_it, puts, row_fits, rows_fit}
+use Rattle.ob_tables.proofs.FoundLemmas.{is_there, shape_found}
 use Rattle.ob_tables.proofs.InsertLemmas.{is_answered, silent_inserted}
-use Rattle.ob_tables.proofs.MutateLemmas.{Alters, MeansFor}
-use Rattle.ob_tables.proofs.RunLemmas.{IsAnswered}
-use Rattle.ob_tables.proofs.SilentLemmas.{serves_as}
+use Rattle.ob_tables.proofs.MutateLemmas.{Alters, MeansFor, mutated, told_slots, unmutated}
+use Rattle.ob_tables.proofs.RunLemmas.{IsAnswered, engine_after}
+use Rattle.ob_tables.proofs.SilentLemmas.{serves_as, unasked}
 use Rattle.ob_tables.proofs.ToldLemmas.{told_whole}
-use Rattle.std.specs.Prelude.{bytes_eq, slice_set}
-use Rattle.std.proofs.lemmas.List.Elements.{All-cons, All-head, All-tail}
-use Rattle.ob_base.specs.declared.schema.Column.{Column}
+use Rattle.std.proofs.lemmas.List.Elements.{All-cons}
 use Rattle.ob_base.specs.declared.schema.Table.{Table}
-use Rattle.ob_base.specs.declared.seen.End.TheVariants.{Whole, Cut}
-use Rattle.ob_base.specs.Lists.{has_repeats}
-use Rattle.ob_room.specs.RoomState.{RoomState}
 use Rattle.ob_store.specs.Calls.{ChangesNothing}
 use Rattle.ob_vault.specs.Places.{at}
-use Rattle.ob_vault.specs.declared.vault.Vault.{Vault}
 use Rattle.ob_flat.specs.declared.flat.Flat.{Flat}
-use Rattle.ob_mean.proofs.FlatLemmas.{MakesFlat}
-use Rattle.ob_mean.specs.Lawful.{selects_rows}
-use Rattle.ob_mutate.specs.Batches.{AreFit}
 use Rattle.ob_mutate.specs.Mutating.{InsertsAll}
-use Rattle.ob_mutate.specs.declared.settling.Former.{Former}
-use Rattle.ob_row.specs.Spelling.{FitsColumns, IsCell}
-use Rattle.ob_select.specs.Selecting.{UsesRoom}
 use Rattle.ob_select.specs.Settings.{AreSettings}
 use Rattle.ob_tables.specs.declared.stop.RunStop.TheVariants.{NoMemory}
-use Rattle.ob_tables.specs.Agreeing.{Agrees, world_of}
-use Rattle.ob_tables.specs.Engines.{IsFound, former_of}
-use Rattle.ob_tables.specs.Running.{is_stop}
-use Rattle.ob_tables.proofs.BatchMeans.{row_fits, rows_fit}
-use Rattle.ob_tables.proofs.FoundLemmas.{shape_found}
+use Rattle.ob_tables.specs.Engines.{IsFound}
 use Rattle.ob_tables.proofs.HeldLemmas.{held_headings}
-use Rattle.ob_tables.proofs.MutateLemmas.{mutated, told_slots, unmutated}
-use Rattle.ob_tables.proofs.RunLemmas.{engine_after}
-use Rattle.ob_tables.proofs.SilentLemmas.{unasked}
 
 -- ---- the answer to its first row
 pub first_answered : (answers : List Inserted) → IsAnswered (given_next None answers)
@@ -165,9 +120,7 @@ batch_as state first rest outcomes old s new t result q same serves others told 
 module _ (p : Public) (m : ℕ) (rest : List Stmt) (outcomes : List Outcome) (are : outcomes ≡ map failed_by (map (refusal_by (is_late m) p) rest)) where
   pub cut_others : (e : OpErr) → IfOk (answer_of e) (λ outcome. AreServedWith p m (is_fault outcome) rest outcomes)
   cut_others OpErrs.Failed = subst (λ (os : List Outcome). AreServedWith p m true rest os) (sym are) (all_failed p m rest)
-  cut_others (OpErrs.Tampered q x) = tt
-  cut_others OpErrs.Sink = tt
-  cut_others OpErrs.NoMemory = tt
+  cut_others other = tt
 
   pub cut_told : (P : Type 0) (e : OpErr) → IfOk (answer_of e) (λ outcome. by_fault (is_fault outcome) ⊤ P)
   cut_told P OpErrs.Failed = tt

@@ -1,40 +1,19 @@
 -- The first changed block that a statement reads is one that its meaning reads.
-use Rattle.std.proofs.Common.{◌≡◌, ℕ, false, Option, List, [], ◌++◌, drop, None, Some, Ok, Err, Result, refl, sym, ◌∙◌, ap, append_assoc}
-use Rattle.std.proofs.lemmas.List.{append-nil, take-append-drop}
-use Rattle.ob_base.specs.declared.access.Access.{Access}
-use Rattle.ob_base.specs.declared.config.Public.{Public}
-use Rattle.ob_tables.specs.declared.stop.RunStop.{RunStop}
+use Rattle.ob_tables.proofs.Words.{Access, AfterCount, ap, append-nil, append_assoc, behind_run, count_of, Cut, Draws, drop, End, Engine, Err, false, insert_part, Joined, Lie, List, None, Ok, Option, Outcome, Public, RanStatement, refl, Result, RevState, rewrite_part, run_script, RunCause, RunStop, Seen, seen, selects_rows, skeleton, Some, Static, Stmt, StoreState, sym, Tables, Whole, whole_run, with_table, World, world_of, ℕ, [], ◌++◌, ◌∙◌, ◌≡◌}
+use Rattle.std.proofs.lemmas.List.{take-append-drop}
 use Rattle.ob_tables.specs.declared.stop.RunStop.TheVariants as Stops
-use Rattle.ob_base.specs.declared.seen.Seen.{Seen}
-use Rattle.ob_base.specs.declared.seen.End.{End}
-use Rattle.ob_base.specs.declared.seen.End.TheVariants.{Static, Whole, AfterCount, Joined, Cut}
-use Rattle.ob_script.specs.Parts.{insert_part, rewrite_part}
-use Rattle.ob_script.specs.Saved.{behind_run, run_script, whole_run}
-use Rattle.ob_script.specs.Script.{mutation_script, shape_script, until_end, with_table}
-use Rattle.ob_store.specs.State.{Lie, StoreState}
-use Rattle.ob_vault.specs.State.{RevState, World}
+use Rattle.ob_script.specs.Script.{mutation_script, shape_script, until_end}
 use Rattle.ob_vault.specs.Tied.{ReadsIn}
 use Rattle.ob_vault.proofs.WorldSteps.{reads_on}
-use Rattle.ob_sql.specs.declared.stmt.Stmt.{Stmt}
 use Rattle.ob_sql.specs.declared.stmt.Stmt.TheVariants.{Create, Insert, Update, Delete, Drop as DropTable, SelectRows as RowsStmt, SelectTotals as TotalsStmt}
-use Rattle.ob_sql.specs.Skeleton.{skeleton}
-use Rattle.ob_mean.specs.Lawful.{selects_rows}
-use Rattle.ob_mean.specs.Verdict.{Draws, Tables, seen, ended as seen_to}
+use Rattle.ob_mean.specs.Verdict.{ended as seen_to}
 use Rattle.ob_select.proofs.LieLemmas.{calm_reads, ends_reads}
-use Rattle.ob_tables.specs.declared.engine.Engine.{Engine}
-use Rattle.ob_verdict.specs.declared.outcome.Outcome.{Outcome}
-use Rattle.ob_tables.specs.Agreeing.{world_of, count_of}
-use Rattle.ob_tables.specs.Running.{RanStatement, RunCause}
 use Rattle.ob_tables.specs.Telling.{meant_script}
 
 pub run_reads : (result : Result Outcome RunStop) (old new : World) (lie : Lie) → RunCause result old new → old.store.lie ≡ None → new.store.lie ≡ Some lie → ReadsIn lie new.store.asked
-run_reads (Ok outcome) old new lie cause none told = calm_reads old new lie cause.1 none told
 run_reads (Err (Stops.Tampered q x)) old new lie cause none told = ends_reads old new lie cause.2 none told
-run_reads (Err Stops.SinkFault) old new lie cause none told = calm_reads old new lie cause.1 none told
-run_reads (Err Stops.NoMemory) old new lie cause none told = calm_reads old new lie cause.1 none told
-run_reads (Err Stops.StoreFault) old new lie cause none told = calm_reads old new lie cause.1 none told
-run_reads (Err Stops.StashFull) old new lie cause none told = calm_reads old new lie cause.1 none told
 run_reads (Err Stops.KeeperFault) old new lie cause none told = absurd cause
+run_reads other old new lie cause none told = calm_reads old new lie cause.1 none told
 
 -- ---- a statement whose accesses follow from what is public, where it reads no leaf
 until_part : (end : End) (all : List Access) → (rest : List Access) × (until_end end all ++ rest ≡ all)
@@ -45,13 +24,11 @@ until_part Joined all = (all, refl)
 until_part (Cut n) all = (drop n all, take-append-drop n all)
 
 plain_run : (p : Public) (stmt : Stmt) (a b : Seen) → selects_rows stmt ≡ false → a.leaf ≡ b.leaf → whole_run p (skeleton stmt) a ≡ whole_run p (skeleton stmt) b
-plain_run p (Create table columns capacity shape) a b plain leaf = refl
 plain_run p (Insert table columns values) a b plain leaf = ap (λ (l : Option ℕ). with_table table p (shape_script p l (mutation_script p insert_part (behind_run p)))) leaf
 plain_run p (Update table sets cond) a b plain leaf = ap (λ (l : Option ℕ). with_table table p (shape_script p l (mutation_script p rewrite_part (behind_run p)))) leaf
 plain_run p (Delete table cond) a b plain leaf = ap (λ (l : Option ℕ). with_table table p (shape_script p l (mutation_script p rewrite_part (behind_run p)))) leaf
-plain_run p (DropTable table) a b plain leaf = refl
 plain_run p (RowsStmt s) a b plain leaf = absurd (cc plain)
-plain_run p (TotalsStmt s) a b plain leaf = refl
+plain_run p other a b plain leaf = refl
 
 pub begun_plain : {R : Type 0} (state : R → RevState) (stmt : Stmt) (result : Result Outcome RunStop) (old : Engine R) (s : StoreState) (new : Engine R) (t : StoreState) (tables : Tables) (d : Draws)
     → selects_rows stmt ≡ false → new.seen.leaf ≡ None → RanStatement state (skeleton stmt) result old s new t → seen d old.public (count_of old s) tables stmt ≡ seen_to Whole → s.lie ≡ None

@@ -1,33 +1,20 @@
 -- Tables in place beside those that a closing lists, both in order of their names.
-use Rattle.std.proofs.Common.{◌≡◌, ℕ, zero, suc, ◌+◌, ◌≤◌, List, [], ◌∷◌, map, Option, Some, refl, sym, ◌∙◌, ap, subst}
-use Rattle.std.specs.Prelude.{fold, slice_get}
+use Rattle.ob_tables.proofs.Words.{ap, AreFlat, AreHeld, AreInPlace, AreKept, catalogue_of, flat_of, Heading, headings, headings_of, Held, HoldsTable, Index, IsTable, KeepsLive, KeptRegion, KeySet, List, Listed, map, Option, Ready, refl, RevState, Round, slice_get, Slots, Some, Stored, StoreState, subst, suc, sym, table_region, Tables, World, zero, ℕ, [], ◌+◌, ◌∙◌, ◌∷◌, ◌≡◌, ◌≤◌}
+use Rattle.std.specs.Prelude.{fold}
 use Rattle.std.specs.List.{insert, prefix_len}
-use Rattle.ob_base.specs.declared.schema.Heading.{Heading}
 use Rattle.ob_base.specs.declared.schema.Table.{Table}
-use Rattle.ob_base.specs.Stored.{Stored, headings, headings_of}
-use Rattle.ob_flat.specs.Flats.{Represents as FlatRepresents, table_region}
-use Rattle.ob_mean.specs.Flats.{AreFlat}
-use Rattle.ob_mean.specs.Verdict.{Held, Tables}
-use Rattle.ob_row.specs.Slots.{Slots}
-use Rattle.ob_seal.specs.KeySet.{KeySet}
+use Rattle.ob_flat.specs.Flats.{Represents as FlatRepresents}
 use Rattle.ob_seal.specs.Sealed.{sealed}
-use Rattle.ob_store.specs.State.{KeptRegion, Shape, StoreState}
-use Rattle.ob_store.specs.Calls.{KeepsLive}
-use Rattle.ob_vault.specs.declared.region.Order.TheVariants.{Round}
-use Rattle.ob_vault.specs.State.{RevState, World}
-use Rattle.ob_vault.specs.Tied.{Ready, at_of}
-use Rattle.ob_reopen.specs.declared.listed.Listed.{Listed}
-use Rattle.ob_reopen.specs.Writings.{catalogue_of, listed_of}
+use Rattle.ob_store.specs.State.{Shape}
+use Rattle.ob_vault.specs.Tied.{at_of}
+use Rattle.ob_reopen.specs.Writings.{listed_of}
 use Rattle.ob_reopen.proofs.InStep.{Beside, fold_beside}
-use Rattle.ob_tables.specs.Engines.{IsTable, flat_of}
-use Rattle.ob_reopen.specs.Resting.{AreKept, KeepsTable, by_name, is_before, kept_block, placed}
+use Rattle.ob_reopen.specs.Resting.{KeepsTable, by_name, is_before, kept_block, placed}
 use Rattle.ob_base.specs.declared.schema.Shape.{Shape as TableShape}
 use Rattle.ob_base.specs.declared.schema.Shape.TheVariants.{Flat as FlatShape}
-use Rattle.ob_oram.specs.declared.index.Index.{Index}
-use Rattle.ob_tables.specs.Telling.{AreHeld, HoldsTable}
 use Rattle.ob_tables.proofs.ListedLemmas.{table_numbers}
 use Rattle.ob_verdict.proofs.AccessedProof.{flat_slots}
-use Rattle.ob_verdict.specs.Laws.{AreInPlace, IsInPlace}
+use Rattle.ob_verdict.specs.Laws.{IsInPlace}
 
 -- ---- each in its place
 placed_in : (stash : ℕ) (tables : Tables) (n : ℕ) (t : Stored Held) → IsInPlace stash t → AreInPlace stash tables → AreInPlace stash (insert tables n t)

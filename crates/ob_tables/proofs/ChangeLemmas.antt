@@ -1,36 +1,21 @@
 -- What UPDATE and DELETE make of a table.
-use Rattle.std.proofs.Common.{◌≡◌, ℕ, suc, List, [], ◌∷◌, ◌++◌, map, Some, None, Option, refl, sym, ◌∙◌, ap, subst, arith}
+use Rattle.ob_tables.proofs.Words.{accepted_answer, Access, ap, arith, Changed, changed_at, Columns, columns_at, copy_part, count_by, database, Deleted, followed, Heading, heading-stored, heading_at, headings, headings_of, Held, in_slots, is_late, is_true, IsSet, limits_of, List, map, None, Option, option_map, option_map_or, outcome_of, Public, refl, Refusal, refusal, refusal_now, refused_late, rewrite_part, rows, settled, Some, Stored, stored_at, subst, suc, sym, Tables, ℕ, [], ◌++◌, ◌∙◌, ◌∷◌, ◌≡◌}
 use Rattle.std.specs.List.{All}
-use Rattle.std.specs.Prelude.{count_by}
-use Rattle.std.specs.Option.{option_map, option_map_or}
-use Rattle.ob_base.specs.declared.config.Public.{Public}
-use Rattle.ob_base.specs.declared.refusal.Refusal.{Refusal}
-use Rattle.ob_base.specs.declared.schema.Heading.{Heading}
-use Rattle.ob_base.specs.declared.access.Access.{Access}
-use Rattle.ob_base.specs.Schemas.{Columns}
-use Rattle.ob_base.specs.Stored.{Stored, headings, headings_of, heading_at, stored_at, changed_at}
-use Rattle.ob_script.specs.Parts.{copy_part, rewrite_part}
 use Rattle.ob_row.specs.declared.cell.Cell.{Cell}
 use Rattle.ob_row.specs.Condition.{Condition}
 use Rattle.ob_row.specs.Rows.{Row}
-use Rattle.ob_row.specs.Slots.{rows, emptied}
-use Rattle.ob_row.specs.Truth.{is_true, updated}
+use Rattle.ob_row.specs.Slots.{emptied}
+use Rattle.ob_row.specs.Truth.{updated}
 use Rattle.ob_sql.specs.declared.stmt.Set.{Set}
 use Rattle.ob_sql.specs.declared.stmt.Stmt.TheVariants.{Update, Delete}
 use Rattle.ob_sql.specs.Search.{Search}
-use Rattle.ob_names.specs.Names.{columns_at, place_of, unqualified}
+use Rattle.ob_names.specs.Names.{place_of, unqualified}
 use Rattle.ob_mean.specs.Conditions.{literal_cell, where_at}
 use Rattle.ob_mutate.specs.Changing.{FitsSets}
 use Rattle.ob_verdict.specs.Accepted.{SetFits}
 use Rattle.ob_verdict.proofs.AcceptedProof.{sets_fit}
-use Rattle.ob_mean.specs.Step.{accepted_answer, answered, followed, rows_at, set_cells}
-use Rattle.ob_mean.specs.Settle.{settled}
-use Rattle.ob_mean.proofs.VerdictLemmas.{headings-database, heading-stored, stored-database, refused_late}
-use Rattle.ob_mean.specs.Verdict.{Held, in_slots, Tables, database, is_late, refusal}
-use Rattle.ob_mean.specs.Refusals.{limits_of}
-use Rattle.ob_verdict.specs.declared.outcome.Outcome.TheVariants.{Changed, Deleted}
-use Rattle.ob_verdict.specs.Outcomes.{refusal_now, outcome_of}
-use Rattle.ob_tables.specs.Schemas.{IsSet}
+use Rattle.ob_mean.specs.Step.{answered, rows_at, set_cells}
+use Rattle.ob_mean.proofs.VerdictLemmas.{headings-database, stored-database}
 use Rattle.ob_tables.proofs.MutateLemmas.{Alters}
 use Rattle.ob_tables.proofs.PlainLemmas.{settle_is}
 

@@ -1,57 +1,35 @@
 -- An engine is closed: its tables are listed, and rest in the store.
-use Rattle.std.proofs.Common.{◌≡◌, ◌⊎◌, inl, inr, ℕ, zero, suc, ◌+◌, ◌<◌, ◌≤◌, ◌^◌, Bool, true, false, List, [], ◌∷◌, ◌++◌, get_or, length, Option, Some, None, Result, Ok, Err, refl, sym, ◌∙◌, ap, subst, arith, append-nil}
-use Rattle.std.specs.Prelude.{IsTrue, ◌||◌, nat_le, slice_get}
+use Rattle.ob_tables.proofs.Words.{AcceptsClosings, Access, Agrees, ap, append-nil, AreFlat, AreSalted, arith, Began, Bool, Calm, catalogue_of, Closing, count_of, Did, drop_script, Engine, Err, false, flat_of, get_or, HasBlock, Heading, headings_of, inl, inr, InUse, IsCatalogue, IsClosing, IsTrue, KeepsLive, KeySet, later_rests, length, List, Listed, Lives, makes, Mark, MayAsk, neither, None, Ok, one, Option, others_of, Ready, refl, Region, represents_lasts, Rests, Result, RevState, Seals, seals_join, seals_rests, slice_get, Some, Start, start_of, StoreState, subst, suc, sym, Tables, TagFits, true, Vault, Went, went_join, went_rests, World, world_of, WritesClosing, zero, ℕ, [], ◌++◌, ◌+◌, ◌<◌, ◌^◌, ◌||◌, ◌∙◌, ◌∷◌, ◌≡◌, ◌≤◌, ◌⊎◌}
+use Rattle.std.specs.Prelude.{nat_le}
 use Rattle.std.specs.List.{All}
 use Rattle.std.proofs.lemmas.Bool.{leb-false}
-use Rattle.ob_base.specs.declared.access.Access.{Access}
-use Rattle.ob_base.specs.declared.mark.Mark.{Mark}
-use Rattle.ob_base.specs.declared.mark.Mark.TheVariants.{InUse}
 use Rattle.ob_base.specs.declared.schema.Table.{Table}
-use Rattle.ob_base.specs.Accesses.{discard_at, drop_script, makes, writes}
+use Rattle.ob_base.specs.Accesses.{discard_at, writes}
 use Rattle.ob_base.proofs.AccessLemmas.{writes_discard}
-use Rattle.ob_flat.proofs.Tables.{represents_lasts}
-use Rattle.ob_mean.specs.Verdict.{Tables}
-use Rattle.ob_mean.proofs.EarlyLemmas.{neither}
-use Rattle.ob_seal.specs.KeySet.{KeySet}
-use Rattle.ob_store.specs.State.{Shape, StoreState}
-use Rattle.ob_store.specs.Calls.{KeepsLive, ChangesNothing as OnlyRoom}
-use Rattle.ob_store.specs.Runs.{Began, Did, Later}
-use Rattle.ob_store.proofs.Steps.{later_refl, later_rests}
+use Rattle.ob_store.specs.State.{Shape}
+use Rattle.ob_store.specs.Calls.{ChangesNothing as OnlyRoom}
+use Rattle.ob_store.specs.Runs.{Later}
+use Rattle.ob_store.proofs.Steps.{later_refl}
 use Rattle.ob_vault.specs.declared.fault.VaultErr.{VaultErr}
-use Rattle.ob_vault.specs.declared.region.Region.{Region}
-use Rattle.ob_vault.specs.declared.vault.Vault.{Vault}
-use Rattle.ob_vault.specs.State.{RevState, Start, World}
-use Rattle.ob_vault.specs.Places.{at, start_of}
-use Rattle.ob_vault.specs.Tied.{Calm, TagFits, Lives, Ready}
-use Rattle.ob_vault.specs.Calls.{Cause, CutShort, Seals, Went, one}
+use Rattle.ob_vault.specs.Places.{at}
+use Rattle.ob_vault.specs.Calls.{Cause, CutShort}
 use Rattle.ob_vault.specs.VaultCalls.{DropsRegion}
-use Rattle.ob_vault.specs.Words.{MayAsk}
-use Rattle.ob_vault.proofs.Runs.{cut_after, lasts_wider, seals_join, seals_none, went_join, went_none, went_spent, went_wider}
-use Rattle.ob_vault.proofs.WordLemmas.{seals_rests, went_rests}
+use Rattle.ob_vault.proofs.Runs.{cut_after, lasts_wider, seals_none, went_none, went_spent, went_wider}
 use Rattle.ob_vault.proofs.WorldSteps.{seals_unasked}
-use Rattle.ob_reopen.specs.declared.closing.Closing.{Closing}
 use Rattle.ob_reopen.specs.declared.fault.CloseErr.{CloseErr}
 use Rattle.ob_reopen.specs.declared.fault.CloseErr.TheVariants.{Failed, NoMemory}
-use Rattle.ob_reopen.specs.declared.listed.Listed.{Listed}
 use Rattle.ob_reopen.specs.Keepers.{IsMark}
-use Rattle.ob_reopen.specs.Limits.{IsCatalogue}
-use Rattle.ob_reopen.specs.Closings.{IsClosing, mark_of, write_script}
-use Rattle.ob_reopen.specs.Writings.{AreSalted, HasBlock, WritesClosing, catalogue_of, next_closing as written_closing, vault_error}
+use Rattle.ob_reopen.specs.Closings.{mark_of, write_script}
+use Rattle.ob_reopen.specs.Writings.{next_closing as written_closing, vault_error}
 use Rattle.ob_reopen.proofs.CatalogueLaws.{catalogue_has, catalogue_is}
-use Rattle.ob_tables.specs.declared.engine.Engine.{Engine}
-use Rattle.ob_tables.specs.Agreeing.{Agrees, count_of, world_of}
 use Rattle.ob_tables.specs.Closing.{ClosesEngine, DropsClosing, closing_script, next_closing}
 use Rattle.ob_reopen.specs.Closed.{ClosingCause, is_used_up}
-use Rattle.ob_tables.specs.Engines.{flat_of, others_of}
-use Rattle.ob_reopen.specs.Resting.{AcceptsClosings, Rests, by_name}
+use Rattle.ob_reopen.specs.Resting.{by_name}
 use Rattle.ob_tables.specs.Telling.{Represents}
 use Rattle.ob_tables.proofs.ByNameLemmas.{named_in, named_kept, table_kept_as}
 use Rattle.ob_tables.proofs.ListedLemmas.{may_list, table_block}
 use Rattle.ob_tables.proofs.RunLemmas.{next_after}
 use Rattle.ob_tables.proofs.HeldLemmas.{held_headings}
-use Rattle.ob_base.specs.declared.schema.Heading.{Heading}
-use Rattle.ob_mean.specs.Flats.{AreFlat}
-use Rattle.ob_base.specs.Stored.{headings_of}
 use Rattle.ob_tables.proofs.TableLemmas.{flat_each, region_below, table_kept}
 
 -- ---- the old closing

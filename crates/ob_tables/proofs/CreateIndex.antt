@@ -1,82 +1,43 @@
 -- CREATE TABLE of an index.
-use Rattle.std.proofs.Common.{◌≡◌, ◌⊎◌, inl, inr, ◌<◌, ◌≤◌, ◌-◌, ◌+◌, ◌*◌, ◌%◌, ◌^◌, max, ℕ, zero, suc, Bool, false, IsTrue, List, [], ◌∷◌, ◌++◌, length, map, replicate, Option, Some, None, Ok, Err, Result, Global, refl, sym, ◌∙◌, ap, subst, arith, append_assoc}
-use Rattle.std.specs.Prelude.{nat_lt, slice_get, sum_by}
+use Rattle.ob_tables.proofs.Words.{accepted_answer, Access, Agrees, allowed, answer_of, ap, append_assoc, AreDraws, AreHeld, AreTables, arith, Bool, Columns, columns_of, count_of, Created, Cut, database, draw_at, draw_seed_of, DrawPlace, Draws, End, Engine, Err, false, followed, free_after, Global, headings_of, height_of, HoldsTable, Index, index_of, Indexed, inl, inr, is_late, is_stop, IsFree, IsIndexOfTable, IsTable, IsTrue, KeepsSealed, key_of, later_rests, length, length-append, Lies, limits_of, List, Lives, map, max, nat_lt, nat_tests, neither, None, Ok, Opens, OpErr, Option, others_of, outcome_of, PassCut, Public, RanStatement, refl, Refusal, refusal, refusal_now, refused_late, Region, replicate, Result, RevState, RoomState, Seals, seals_join, seals_rests, ServesSilently, settle, settled, slice_get, Some, StoreState, subst, suc, sym, table_region, Tables, tabulate, two, Vault, Vec, Went, went_join, went_rests, Whole, whole_run, width, World, world_of, zero, ℕ, [], ◌%◌, ◌*◌, ◌++◌, ◌+◌, ◌-◌, ◌<◌, ◌^◌, ◌∙◌, ◌∷◌, ◌≡◌, ◌≤◌, ◌⊎◌}
+use Rattle.std.specs.Prelude.{sum_by}
 use Rattle.std.specs.List.{All}
-use Rattle.std.specs.declared.vec.Vec.{Vec}
 use Rattle.std.proofs.lemmas.Bool.{not-false}
-use Rattle.std.proofs.lemmas.Bool.Decides.{nat_tests}
-use Rattle.ob_base.specs.declared.config.Public.{Public}
-use Rattle.std.proofs.lemmas.List.{length-append, length-replicate, replicate-append-replicate}
-use Rattle.ob_base.specs.declared.access.Access.{Access}
+use Rattle.std.proofs.lemmas.List.{length-replicate, replicate-append-replicate}
 use Rattle.ob_base.specs.declared.access.Access.TheVariants.{Make}
-use Rattle.ob_base.specs.declared.refusal.Refusal.{Refusal}
-use Rattle.ob_base.specs.declared.schema.Shape.TheVariants.{Indexed}
 use Rattle.ob_base.specs.declared.schema.Table.{Table}
-use Rattle.ob_base.specs.declared.seen.End.{End}
-use Rattle.ob_base.specs.declared.seen.End.TheVariants.{Whole, Cut}
 use Rattle.ob_base.specs.declared.skeleton.NewColumn.{NewColumn}
 use Rattle.ob_base.specs.declared.skeleton.Skeleton.TheVariants.{Create}
 use Rattle.ob_base.specs.Accesses.{write_at}
-use Rattle.ob_base.specs.Indexes.{IsHeight, height_of, leaf_of_draw, tree_blocks}
-use Rattle.ob_base.specs.Lists.{each, tabulate}
-use Rattle.ob_base.specs.Schemas.{Columns, columns_of, width}
+use Rattle.ob_base.specs.Indexes.{IsHeight, leaf_of_draw, tree_blocks}
+use Rattle.ob_base.specs.Lists.{each}
 use Rattle.ob_base.proofs.IndexLemmas.{height_same, is_height_of}
-use Rattle.ob_room.specs.RoomState.{RoomState}
 use Rattle.ob_row.specs.Rows.{Row}
 use Rattle.ob_path.specs.States.{State}
-use Rattle.ob_store.specs.State.{StoreState}
 use Rattle.ob_store.specs.Calls.{ChangesNothing}
-use Rattle.ob_store.proofs.Steps.{later_rests}
-use Rattle.ob_vault.specs.State.{RevState, World}
-use Rattle.ob_vault.specs.declared.region.Region.{Region}
 use Rattle.ob_vault.specs.declared.region.Order.TheVariants.{Any}
-use Rattle.ob_vault.specs.declared.vault.Vault.{Vault}
 use Rattle.ob_vault.specs.Places.{at}
-use Rattle.ob_vault.specs.Tied.{Lives}
-use Rattle.ob_vault.specs.Calls.{Seals, Went, two}
-use Rattle.ob_vault.proofs.Runs.{seals_join, went_join}
-use Rattle.ob_vault.proofs.WordLemmas.{seals_rests, went_rests}
-use Rattle.ob_flat.specs.declared.fault.OpErr.{OpErr}
 use Rattle.ob_flat.specs.declared.flat.Flat.{Flat}
 use Rattle.ob_flat.specs.Creates.{create_script, make_script}
-use Rattle.ob_flat.specs.Flats.{table_region}
-use Rattle.ob_flat.specs.Passes.{PassCut}
 use Rattle.ob_flat.specs.Words.{blocks_of}
 use Rattle.ob_flat.proofs.Runs.{pass_after}
-use Rattle.ob_oram.specs.declared.index.Index.{Index}
 use Rattle.ob_oram.specs.Creating.{BeganBehind, CreatesIndex, CreatesRegions, IsFresh, create_index_script, new_stash, new_tree}
-use Rattle.ob_oram.specs.Indexes.{Lies, leaves_of, tree_of}
+use Rattle.ob_oram.specs.Indexes.{leaves_of, tree_of}
 use Rattle.ob_oram.specs.Keys.{IsIntKey}
 use Rattle.ob_oram.proofs.Creates.{one_each}
 use Rattle.ob_script.specs.Parts.{create_part}
-use Rattle.ob_script.specs.Saved.{whole_run}
-use Rattle.ob_seal.specs.Draws.{DrawPlace, draw_at}
-use Rattle.ob_seal.specs.KeySet.{draw_seed_of}
 use Rattle.ob_seal.proofs.Drawn.{draws_wrap}
-use Rattle.rand_chacha.specs.ChaCha.{key_of}
 use Rattle.ob_sql.specs.declared.stmt.Stmt.TheVariants.{Create as CreateStmt}
-use Rattle.ob_mean.specs.Refusals.{has_int_key, limits_of}
-use Rattle.ob_mean.specs.Settle.{new_held, settle, settled}
-use Rattle.ob_mean.specs.Step.{accepted_answer, answered as answered_by, followed}
-use Rattle.ob_mean.specs.Verdict.{Draws, Tables, database, held_as, index_of, is_late, leaves_drawn, refusal, ended as seen_to}
-use Rattle.ob_mean.proofs.EarlyLemmas.{allowed, neither}
-use Rattle.ob_mean.proofs.VerdictLemmas.{index_again, refused_late}
-use Rattle.ob_base.specs.Stored.{headings_of}
+use Rattle.ob_mean.specs.Refusals.{has_int_key}
+use Rattle.ob_mean.specs.Settle.{new_held}
+use Rattle.ob_mean.specs.Step.{answered as answered_by}
+use Rattle.ob_mean.specs.Verdict.{held_as, leaves_drawn, ended as seen_to}
+use Rattle.ob_mean.proofs.VerdictLemmas.{index_again}
 use Rattle.ob_select.specs.Memory.{ends_with_make, starts_with_make}
-use Rattle.ob_select.specs.Opening.{Opens}
-use Rattle.ob_select.specs.Settings.{IsFree}
-use Rattle.ob_select.proofs.RoomLemmas.{free_after}
-use Rattle.ob_verdict.specs.declared.outcome.Outcome.TheVariants.{Created}
-use Rattle.ob_verdict.specs.Outcomes.{outcome_of, refusal_now}
 use Rattle.ob_reopen.specs.Limits.{IsHeading}
-use Rattle.ob_tables.specs.declared.engine.Engine.{Engine}
-use Rattle.ob_tables.specs.Agreeing.{Agrees, AreDraws, count_of, world_of}
-use Rattle.ob_tables.specs.Engines.{AreTables, FitsSettings, IsIndexOfTable, IsTable, others_of}
+use Rattle.ob_tables.specs.Engines.{FitsSettings}
 use Rattle.ob_tables.specs.Leaves.{MovesLeaves}
 use Rattle.ob_tables.specs.Memory.{LacksMemory}
-use Rattle.ob_tables.specs.Running.{RanStatement, answer_of, is_stop}
-use Rattle.ob_tables.specs.Serving.{ServesSilently}
-use Rattle.ob_tables.specs.Telling.{AreHeld, HoldsTable, KeepsSealed}
 use Rattle.ob_tables.proofs.CreateLemmas.{IsShort, new_heading, new_name, new_place, new_within}
 use Rattle.ob_tables.proofs.HeldLemmas.{held_added, held_among, held_kept}
 use Rattle.ob_tables.proofs.IndexKinds.{next_place}

@@ -1,72 +1,36 @@
 -- CREATE TABLE, after its pass.
+use Rattle.ob_tables.proofs.Words.{accepted_answer, Access, Agrees, All-head, All-tail, allowed, answer_of, ap, AreHeld, arith, behind_run, blocks_for, Bool, bytes_eq, bytes_eq-Decides, cases_eq, Column, Columns, columns_of, cond, count_by, count_of, Created, Cut, database, End, Engine, Err, false, followed, has_repeats, has_table, headings_of, Held, HoldsTable, inr, is_late, is_stop, IsAt, IsFlat, IsTable, IsTrue, length, length-map, limits_of, List, Lives, map, max, nat_lt, nat_tests, neither, None, not, Ok, one, OpErr, Option, others_of, Outcome, outcome_of, Public, refl, Refusal, refusal, refusal_now, refused_late, Result, RevState, RoomState, Round, RunStop, ServesSilently, settle, settled, Some, StoreState, subst, suc, sym, table_region, Tables, true, UsesRoom, Vault, Went, went_join, went_rests, Whole, whole_run, width, World, world_of, zero, ℕ, [], ◌&&◌, ◌*◌, ◌++◌, ◌-◌, ◌<◌, ◌∙◌, ◌∷◌, ◌≡◌, ◌≤◌}
 use Rattle.std.proofs.lemmas.Bool.{le-leb, not-false}
-use Rattle.std.proofs.lemmas.Bool.Decides.{nat_tests}
-use Rattle.std.proofs.lemmas.List.{length-map}
-use Rattle.std.proofs.lemmas.List.Elements.{All-map, All-head, All-tail}
+use Rattle.std.proofs.lemmas.List.Elements.{All-map}
 use Rattle.std.proofs.lemmas.List.Sums.{sum_by-cons}
-use Rattle.std.proofs.Common.{◌≡◌, inr, ◌-◌, ◌*◌, ℕ, zero, suc, cond, true, false, List, [], ◌∷◌, ◌++◌, length, Some, Ok, Err, Result, refl, sym, ◌∙◌, ap, subst, arith}
 use Rattle.std.specs.List.{All, list_all, list_any}
-use Rattle.std.specs.Prelude.{◌<◌, ◌≤◌, ◌&&◌, max, Bool, IsTrue, Option, None, MatchOption, count_by, map, nat_lt, not, sum_by, bytes_eq}
-use Rattle.std.proofs.lemmas.Slice.Eq.{bytes_eq-Decides}
-use Rattle.std.proofs.lemmas.Bool.{cases_eq}
+use Rattle.std.specs.Prelude.{MatchOption, sum_by}
 use Rattle.ob_base.specs.declared.schema.Shape.{Shape}
 use Rattle.ob_base.specs.declared.schema.Shape.TheVariants.{Flat as FlatShape}
-use Rattle.ob_base.specs.declared.access.Access.{Access}
-use Rattle.ob_base.specs.declared.config.Public.{Public}
-use Rattle.ob_base.specs.declared.refusal.Refusal.{Refusal}
-use Rattle.ob_tables.specs.declared.stop.RunStop.{RunStop}
-use Rattle.ob_base.specs.declared.schema.Column.{Column}
 use Rattle.ob_base.specs.declared.schema.Table.{Table}
-use Rattle.ob_base.specs.declared.seen.End.{End}
-use Rattle.ob_base.specs.declared.seen.End.TheVariants.{Whole, Cut}
 use Rattle.ob_base.specs.declared.skeleton.NewColumn.{NewColumn}
 use Rattle.ob_base.specs.declared.skeleton.NewKind.{NewKind}
 use Rattle.ob_base.specs.declared.skeleton.NewKind.TheVariants.{Int as NewInt, Varchar as NewVarchar}
 use Rattle.ob_base.specs.declared.skeleton.Skeleton.TheVariants.{Create}
-use Rattle.ob_base.specs.Lists.{has_repeats}
-use Rattle.ob_base.specs.Numbers.{blocks_for}
-use Rattle.ob_base.specs.Schemas.{Columns, width, kind_of, new_column, columns_of}
-use Rattle.ob_base.specs.Stored.{has_table}
-use Rattle.ob_room.specs.RoomState.{RoomState}
+use Rattle.ob_base.specs.Schemas.{kind_of, new_column}
 use Rattle.ob_blocks.specs.Idle.{IsIdle}
-use Rattle.ob_store.specs.State.{StoreState}
-use Rattle.ob_select.specs.Selecting.{UsesRoom}
 use Rattle.ob_store.specs.Calls.{ChangesNothing}
-use Rattle.ob_vault.specs.State.{RevState, World}
-use Rattle.ob_vault.specs.declared.vault.Vault.{Vault}
 use Rattle.ob_vault.specs.Places.{at}
-use Rattle.ob_vault.specs.Calls.{Went, one}
-use Rattle.ob_vault.specs.Tied.{Lives}
-use Rattle.ob_vault.proofs.Runs.{went_join}
 use Rattle.ob_script.specs.Parts.{create_part}
-use Rattle.ob_script.specs.Saved.{behind_run, whole_run}
 use Rattle.ob_script.specs.Script.{created_script}
-use Rattle.ob_flat.specs.declared.fault.OpErr.{OpErr}
-use Rattle.ob_flat.specs.Flats.{IsFlat, IsSized, Represents as FlatRepresents, table_region}
+use Rattle.ob_flat.specs.Flats.{IsSized, Represents as FlatRepresents}
 use Rattle.ob_flat.specs.declared.flat.Flat.{Flat}
 use Rattle.ob_flat.specs.Creates.{Creates, table_of}
 use Rattle.ob_flat.specs.Words.{SealsTable}
-use Rattle.ob_vault.specs.declared.region.Order.TheVariants.{Round}
 use Rattle.ob_row.specs.Slots.{empty_slots}
 use Rattle.ob_sql.specs.declared.stmt.Stmt.TheVariants.{Create as CreateStmt}
-use Rattle.ob_base.specs.Stored.{headings_of}
-use Rattle.ob_mean.specs.Refusals.{is_size, limits_of}
-use Rattle.ob_mean.specs.Step.{accepted_answer, answered as answered_by, followed}
+use Rattle.ob_mean.specs.Refusals.{is_size}
+use Rattle.ob_mean.specs.Step.{answered as answered_by}
 use Rattle.ob_mean.proofs.FlatLemmas.{created_flat}
-use Rattle.ob_mean.specs.Settle.{settle, settled}
-use Rattle.ob_mean.specs.Verdict.{Held, Tables, database, is_late, refusal, ended as seen_to}
-use Rattle.ob_mean.proofs.EarlyLemmas.{allowed, within, neither, IsWithin}
-use Rattle.ob_mean.proofs.VerdictLemmas.{refused_late}
-use Rattle.ob_tables.specs.declared.engine.Engine.{Engine}
-use Rattle.ob_verdict.specs.declared.outcome.Outcome.{Outcome}
-use Rattle.ob_verdict.specs.declared.outcome.Outcome.TheVariants.{Created}
+use Rattle.ob_mean.specs.Verdict.{ended as seen_to}
+use Rattle.ob_mean.proofs.EarlyLemmas.{within, IsWithin}
 use Rattle.ob_reopen.specs.Limits.{IsHeading, IsStored, is_column, is_kind}
-use Rattle.ob_tables.specs.Engines.{IsAt, IsTable, others_of}
-use Rattle.ob_tables.specs.Agreeing.{Agrees, world_of, count_of}
-use Rattle.ob_tables.specs.Running.{answer_of, is_stop}
-use Rattle.ob_verdict.specs.Outcomes.{refusal_now, outcome_of}
-use Rattle.ob_tables.specs.Serving.{ServesSilently}
-use Rattle.ob_tables.specs.Telling.{AreHeld, HoldsTable, Represents}
+use Rattle.ob_tables.specs.Telling.{Represents}
 use Rattle.ob_tables.proofs.TableLemmas.{beside_below, tables_added, region_below}
 use Rattle.ob_tables.proofs.HeldLemmas.{held_kept, held_added}
 use Rattle.ob_tables.proofs.PlainLemmas.{none_drawn, settle_is}
@@ -74,7 +38,6 @@ use Rattle.ob_tables.proofs.FormerLemmas.{alone_behind}
 use Rattle.ob_tables.proofs.SealLemmas.{keeps_pass}
 use Rattle.ob_tables.proofs.SilentLemmas.{cut_off, finished, serves_as}
 use Rattle.ob_tables.proofs.ToldLemmas.{early_held, fault_made, silent_fault}
-use Rattle.ob_vault.proofs.WordLemmas.{went_rests}
 use Rattle.ob_tables.proofs.RunLemmas.{IsAnswered, early_few, engine_after, leaves_none, none_by, ran_done}
 
 -- ---- what is known of a CREATE that is not refused early

@@ -1,7 +1,5 @@
 -- Draws, one after the other.
-use Rattle.std.proofs.Common.{◌≡◌, ◌+◌, ◌%◌, ◌^◌, ℕ, suc, List, [], ◌∷◌, ◌++◌, refl, ◌∙◌, ap, arith}
-use Rattle.ob_base.specs.Lists.{tabulate}
-use Rattle.ob_seal.specs.Draws.{DrawPlace, draw_at}
+use Rattle.ob_tables.proofs.Words.{ap, arith, draw_at, DrawPlace, List, refl, suc, tabulate, ℕ, [], ◌%◌, ◌++◌, ◌+◌, ◌^◌, ◌∙◌, ◌∷◌, ◌≡◌}
 use Rattle.ob_seal.proofs.Drawn.{draws_wrap}
 
 -- where so many were taken: of none it is the same place, and else counted on, as draws repeat

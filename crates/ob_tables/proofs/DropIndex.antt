@@ -1,54 +1,24 @@
 -- DROP TABLE of an index.
-use Rattle.std.proofs.Common.{◌≡◌, inl, inr, ◌+◌, ◌%◌, ◌^◌, ℕ, false, List, [], ◌++◌, Option, Some, None, Ok, Result, Global, refl, sym, ◌∙◌, ap, subst, arith}
-use Rattle.std.specs.Prelude.{slice_get}
-use Rattle.std.specs.List.{remove}
-use Rattle.std.specs.Option.{option_map_or}
-use Rattle.std.specs.declared.vec.Vec.{Vec}
-use Rattle.ob_base.specs.declared.access.Access.{Access}
-use Rattle.ob_base.specs.declared.refusal.Refusal.{Refusal}
+use Rattle.ob_tables.proofs.Words.{accepted_answer, Access, Agrees, ap, AreHeld, AreTables, arith, behind_run, by_shape, count_of, database, Dropped, End, Engine, false, followed, Global, Index, inl, inr, IsAt, IsIndexIn, IsIndexOfTable, left_region, List, None, none, Ok, Opens, OpErr, Option, option_map_or, others_of, outcome_of, RanStatement, refl, Refusal, refusal, refusal_now, refused_late, Region, remove, Result, RevState, ServesSilently, settle, settled, slice_get, Some, Stored, StoreState, subst, sym, Tables, two, Vault, Vec, Went, went_join, went_rests, Whole, whole_run, world_of, ℕ, [], ◌%◌, ◌++◌, ◌+◌, ◌^◌, ◌∙◌, ◌≡◌}
 use Rattle.ob_base.specs.declared.schema.Shape.{Shape}
 use Rattle.ob_base.specs.declared.schema.Table.{Table}
-use Rattle.ob_base.specs.declared.seen.End.{End}
-use Rattle.ob_base.specs.declared.seen.End.TheVariants.{Whole}
 use Rattle.ob_base.specs.declared.skeleton.Skeleton.TheVariants.{Drop as DropSkeleton}
 use Rattle.ob_base.specs.Accesses.{discard_at}
-use Rattle.ob_base.specs.Indexes.{by_shape}
-use Rattle.ob_base.specs.Stored.{Stored, dropped_at}
-use Rattle.ob_store.specs.State.{StoreState}
+use Rattle.ob_base.specs.Stored.{dropped_at}
 use Rattle.ob_store.specs.Calls.{ChangesNothing}
-use Rattle.ob_vault.specs.State.{RevState}
-use Rattle.ob_vault.specs.declared.region.Region.{Region}
-use Rattle.ob_vault.specs.declared.vault.Vault.{Vault}
 use Rattle.ob_vault.specs.Places.{at}
-use Rattle.ob_vault.specs.Calls.{Went, none, two}
-use Rattle.ob_vault.proofs.Runs.{went_join}
-use Rattle.ob_vault.proofs.WordLemmas.{went_rests}
-use Rattle.ob_flat.specs.declared.fault.OpErr.{OpErr}
-use Rattle.ob_oram.specs.declared.index.Index.{Index}
 use Rattle.ob_oram.specs.Discards.{DiscardsIndex}
 use Rattle.ob_oram.specs.Indexes.{IsStored}
 use Rattle.ob_oram.proofs.Lasting.{stored_kept}
-use Rattle.ob_script.specs.Saved.{behind_run, left_region, whole_run}
 use Rattle.ob_script.specs.Script.{dropped_script}
 use Rattle.ob_sql.specs.declared.stmt.Stmt.TheVariants.{Drop as DropTable}
-use Rattle.ob_mean.specs.Settle.{settle, settled}
-use Rattle.ob_mean.specs.Step.{accepted_answer, answered as answered_by, followed}
-use Rattle.ob_mean.specs.Verdict.{Tables, database, refusal, ended as seen_to}
-use Rattle.ob_mean.proofs.VerdictLemmas.{refused_late}
-use Rattle.ob_verdict.specs.declared.outcome.Outcome.TheVariants.{Dropped}
-use Rattle.ob_verdict.specs.Outcomes.{refusal_now, outcome_of}
-use Rattle.ob_tables.specs.declared.engine.Engine.{Engine}
-use Rattle.ob_tables.specs.Agreeing.{Agrees, world_of, count_of}
-use Rattle.ob_tables.specs.Engines.{AreTables, IsAt, IsIndexIn, IsIndexOfTable, others_of}
-use Rattle.ob_tables.specs.Running.{RanStatement}
-use Rattle.ob_tables.specs.Telling.{AreHeld}
-use Rattle.ob_select.specs.Opening.{Opens}
+use Rattle.ob_mean.specs.Step.{answered as answered_by}
+use Rattle.ob_mean.specs.Verdict.{ended as seen_to}
 use Rattle.ob_tables.proofs.DropLemmas.{held_removed, origin, origin_off, removed_is}
 use Rattle.ob_tables.proofs.HeldLemmas.{held_among}
 use Rattle.ob_tables.proofs.IndexTables.{apart_stash, apart_table, tables_unindexed, x_in}
 use Rattle.ob_tables.proofs.RunLemmas.{MayHave, asks_none, engine_left, leaves_none, left_on, none_by, unsaved}
 use Rattle.ob_tables.proofs.TableLemmas.{no_entry, stored_found}
-use Rattle.ob_tables.specs.Serving.{ServesSilently}
 use Rattle.ob_tables.proofs.PlainLemmas.{settle_is}
 use Rattle.ob_tables.proofs.SealLemmas.{keeps_pass}
 use Rattle.ob_tables.proofs.SilentLemmas.{finished_left}

@@ -1,58 +1,27 @@
 -- DROP TABLE.
-use Rattle.ob_oram.specs.declared.index.Index.{Index}
-use Rattle.std.proofs.Common.{◌≡◌, ◌⊎◌, inl, inr, ◌<◌, ◌≤◌, ℕ, zero, suc, Bool, true, false, if◌then◌else◌, List, [], ◌∷◌, length, Some, None, Option, Ok, Result, refl, sym, ◌∙◌, ap, subst, arith, slice_get}
-use Rattle.std.specs.Prelude.{bytes_eq, filter, not}
-use Rattle.std.specs.List.{remove}
-use Rattle.std.specs.Option.{option_map, option_map_or}
-use Rattle.std.proofs.lemmas.Slice.Eq.{bytes_eq-Decides}
-use Rattle.ob_base.specs.declared.refusal.Refusal.{Refusal}
-use Rattle.ob_tables.specs.declared.stop.RunStop.{RunStop}
-use Rattle.ob_base.specs.declared.schema.Heading.{Heading}
-use Rattle.ob_base.specs.declared.schema.Shape.TheVariants.{Flat as FlatShape, Indexed}
+use Rattle.ob_tables.proofs.Words.{accepted_answer, Agrees, ap, AreHeld, AreTables, arith, behind_run, Bool, bytes_eq, bytes_eq-Decides, cases_eq, count_of, database, Dropped, End, Engine, false, flat_of, followed, Former, former_of, Heading, if◌then◌else◌, Index, index_kept, Indexed, inl, inr, IsAt, IsBeside, IsIndexIn, IsTable, IsTableRegion, IsTreeOf, Lasts, length, List, Lives, None, not, Ok, one, Opens, Option, option_map, option_map_or, others_of, Outcome, outcome_of, refl, Refusal, refusal, refusal_now, refused_late, Region, remove, Result, RevState, RunStop, ServesSilently, settle, settled, slice_get, Some, Stored, stored_at, stored_region, stored_regions, StoreState, subst, suc, sym, Tables, true, Vault, went_join, went_rests, Whole, whole_run, World, world_of, zero, ℕ, [], ◌<◌, ◌∙◌, ◌∷◌, ◌≡◌, ◌≤◌, ◌⊎◌}
+use Rattle.std.specs.Prelude.{filter}
+use Rattle.ob_base.specs.declared.schema.Shape.TheVariants.{Flat as FlatShape}
 use Rattle.ob_base.specs.declared.schema.Table.{Table}
-use Rattle.ob_base.specs.declared.seen.End.{End}
-use Rattle.ob_base.specs.declared.seen.End.TheVariants.{Whole}
 use Rattle.ob_base.specs.declared.skeleton.Skeleton.TheVariants.{Drop as DropSkeleton}
-use Rattle.ob_base.specs.Stored.{Stored, dropped_at, stored_at, stored_region, stored_regions}
-use Rattle.ob_store.specs.State.{StoreState}
+use Rattle.ob_base.specs.Stored.{dropped_at}
 use Rattle.ob_store.specs.Calls.{ChangesNothing}
-use Rattle.ob_vault.specs.State.{RevState, World}
-use Rattle.ob_vault.specs.declared.region.Region.{Region}
-use Rattle.ob_vault.specs.declared.vault.Vault.{Vault}
 use Rattle.ob_vault.specs.Places.{at}
-use Rattle.ob_vault.specs.Tied.{Lives}
-use Rattle.ob_vault.specs.Calls.{Lasts, one}
-use Rattle.ob_vault.proofs.Runs.{went_join}
-use Rattle.ob_vault.proofs.WordLemmas.{went_rests}
 use Rattle.ob_flat.specs.declared.flat.Flat.{Flat}
-use Rattle.std.proofs.lemmas.Bool.{cases_eq}
-use Rattle.ob_mutate.specs.declared.settling.Former.{Former}
 use Rattle.ob_mutate.specs.declared.settling.Former.TheVariants.{Discard, Keep}
 use Rattle.ob_mutate.specs.Mutating.{LeavesFormer, former_script}
 use Rattle.ob_mean.proofs.FlatLemmas.{dropped_is}
-use Rattle.ob_script.specs.Saved.{behind_run, region_at, whole_run}
+use Rattle.ob_script.specs.Saved.{region_at}
 use Rattle.ob_script.specs.Script.{dropped_script}
 use Rattle.ob_sql.specs.declared.stmt.Stmt.TheVariants.{Drop as DropTable}
-use Rattle.ob_mean.specs.Settle.{settle, settled}
-use Rattle.ob_mean.specs.Step.{accepted_answer, answered as answered_by, followed}
-use Rattle.ob_mean.specs.Verdict.{Tables, database, refusal, ended as seen_to}
-use Rattle.ob_mean.proofs.VerdictLemmas.{refused_late}
-use Rattle.ob_tables.specs.declared.engine.Engine.{Engine}
-use Rattle.ob_verdict.specs.declared.outcome.Outcome.{Outcome}
-use Rattle.ob_verdict.specs.declared.outcome.Outcome.TheVariants.{Dropped}
-use Rattle.ob_tables.specs.Engines.{AreTables, IsAt, IsBeside, IsTable, IsTableRegion, IsTreeOf, flat_of, others_of, IsIndexIn, former_of}
-use Rattle.ob_select.specs.Opening.{Opens}
-use Rattle.ob_tables.specs.Agreeing.{Agrees, world_of, count_of}
-use Rattle.ob_verdict.specs.Outcomes.{refusal_now, outcome_of}
-use Rattle.ob_tables.specs.Serving.{ServesSilently}
-use Rattle.ob_tables.specs.Telling.{AreHeld}
+use Rattle.ob_mean.specs.Step.{answered as answered_by}
+use Rattle.ob_mean.specs.Verdict.{ended as seen_to}
 use Rattle.ob_tables.proofs.FormerLemmas.{former_is, kept_former, left_stays}
 use Rattle.ob_tables.proofs.HeldLemmas.{held_kept, holds_kept}
 use Rattle.ob_tables.proofs.PlainLemmas.{settle_is}
 use Rattle.ob_tables.proofs.RunLemmas.{IsAnswered, engine_after, ran_whole}
 use Rattle.ob_tables.proofs.SealLemmas.{keeps_pass}
 use Rattle.ob_tables.proofs.SilentLemmas.{finished, serves_as}
-use Rattle.ob_oram.proofs.Lasting.{index_kept}
 use Rattle.ob_tables.proofs.TableLemmas.{AreNamed, beside_kept, named, stored_found, table_kept}
 use Rattle.ob_tables.proofs.ToldLemmas.{early_held}
 

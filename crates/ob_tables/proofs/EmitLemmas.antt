@@ -1,14 +1,10 @@
 -- The rows that are selected and emitted, and reads of blocks that were changed.
-use Rattle.std.proofs.Common.{◌≡◌, ℕ, suc, IsTrue, List, [], ◌∷◌, length, Option, Some, None, refl, ap, sym, subst}
+use Rattle.ob_tables.proofs.Words.{ap, Calm, is_true, IsTrue, Lasts, length, Lie, List, None, Option, refl, rows, Slots, Some, subst, suc, sym, TagFits, World, ℕ, [], ◌∷◌, ◌≡◌}
 use Rattle.ob_base.specs.declared.shown.Shown.{Shown}
 use Rattle.ob_base.specs.Lists.{places_from}
 use Rattle.ob_row.specs.Condition.{All}
-use Rattle.ob_row.specs.Slots.{Slots, rows, is_selected, selected}
-use Rattle.ob_row.specs.Truth.{is_true}
-use Rattle.ob_store.specs.State.{Lie}
-use Rattle.ob_vault.specs.State.{World}
-use Rattle.ob_vault.specs.Tied.{Calm, IsUnfit, TagFits}
-use Rattle.ob_vault.specs.Calls.{Lasts}
+use Rattle.ob_row.specs.Slots.{is_selected, selected}
+use Rattle.ob_vault.specs.Tied.{IsUnfit}
 
 -- ---- a count
 -- the selected places, where every row is selected

@@ -1,16 +1,8 @@
 -- What becomes of the region in which a table lay before it was changed.
-use Rattle.std.proofs.Common.{◌≡◌, ℕ, Bool, true, false, if◌then◌else◌, List, [], ◌++◌, Option, Some, None, refl, sym, ◌∙◌, ap, subst, append-nil}
-use Rattle.ob_base.specs.declared.access.Access.{Access}
-use Rattle.ob_base.specs.declared.config.Public.{Public}
-use Rattle.ob_base.specs.Accesses.{drop_script}
-use Rattle.ob_mutate.specs.declared.settling.Former.{Former}
+use Rattle.ob_tables.proofs.Words.{Access, ap, append-nil, behind_run, Bool, drop_script, false, Former, former_of, if◌then◌else◌, List, None, Option, Public, refl, Region, Some, StoreState, subst, sym, true, ℕ, [], ◌++◌, ◌∙◌, ◌≡◌}
 use Rattle.ob_mutate.specs.declared.settling.Former.TheVariants.{Discard, Keep}
 use Rattle.ob_mutate.specs.Mutating.{StaysFormer, StaysStored, former_script}
-use Rattle.ob_script.specs.Saved.{behind_run}
 use Rattle.ob_store.specs.Calls.{ChangesNothing}
-use Rattle.ob_store.specs.State.{StoreState}
-use Rattle.ob_vault.specs.declared.region.Region.{Region}
-use Rattle.ob_tables.specs.Engines.{former_of}
 
 -- what is asked for it is what follows the change
 pub former_is : (p : Public) (region : ℕ) → former_script (former_of p) region ≡ behind_run p (Some region)

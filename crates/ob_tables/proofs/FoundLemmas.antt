@@ -1,15 +1,7 @@
 -- The table that a statement names, where it is not refused early.
-use Rattle.std.proofs.Common.{◌≡◌, ℕ, suc, Bool, true, false, List, [], ◌∷◌, Some, refl, sym, ◌∙◌, ap}
-use Rattle.std.specs.Prelude.{slice_get, bytes_eq, not, ◌||◌}
-use Rattle.std.specs.Option.{option_map}
-use Rattle.ob_base.specs.declared.schema.Heading.{Heading}
+use Rattle.ob_tables.proofs.Words.{ap, Bool, bytes_eq, false, has_table, Heading, heading-stored, heading_at, headings, headings_of, is_index, IsAt, List, not, option_map, refl, slice_get, Some, Stored, stored_regions, suc, sym, true, ℕ, [], ◌||◌, ◌∙◌, ◌∷◌, ◌≡◌}
 use Rattle.ob_base.specs.declared.schema.Table.{Table}
-use Rattle.ob_base.specs.Stored.{Stored, headings, heading_at, has_table, stored_regions}
-use Rattle.ob_base.specs.Stored.{headings_of}
-use Rattle.ob_mean.proofs.VerdictLemmas.{heading-stored}
-use Rattle.ob_tables.specs.Engines.{IsAt}
 use Rattle.ob_base.specs.declared.schema.Shape.TheVariants.{Flat as FlatShape}
-use Rattle.ob_mean.specs.Refusals.{is_index}
 use Rattle.ob_tables.proofs.HeldLemmas.{heading_flat}
 use Rattle.ob_tables.proofs.TableLemmas.{AreNamed, NamedFlat, named, stored_found}
 

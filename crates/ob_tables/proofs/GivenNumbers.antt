@@ -1,18 +1,12 @@
 -- The numbers that the places of a closing and its tables have once they are open.
-use Rattle.std.proofs.Common.{◌≡◌, ◌≢◌, inl, inr, ℕ, zero, suc, ◌==◌, ◌+◌, ◌-◌, ◌<◌, ◌≤◌, ltb, if◌then◌else◌, List, [], ◌∷◌, Some, refl, sym, ◌∙◌, ap, subst, arith}
-use Rattle.std.specs.Prelude.{◌&&◌, length, slice_get, take}
-use Rattle.std.proofs.lemmas.Bool.{cases_eq, cases_lt}
-use Rattle.std.proofs.lemmas.Bool.Decides.{nat_tests}
+use Rattle.ob_tables.proofs.Words.{ap, arith, cases_eq, cases_lt, Closing, false, if◌then◌else◌, inl, inr, IsReopened, KeySet, length, Lie, List, Listed, nat_tests, refl, slice_get, Some, Start, subst, suc, sym, TagFits, take, World, zero, ℕ, [], ◌&&◌, ◌+◌, ◌-◌, ◌<◌, ◌==◌, ◌∙◌, ◌∷◌, ◌≡◌, ◌≢◌, ◌≤◌}
+use Rattle.std.proofs.Common.{ltb}
 use Rattle.ob_base.specs.Accesses.{number_from}
-use Rattle.ob_seal.specs.KeySet.{KeySet}
 use Rattle.ob_seal.specs.Sealed.{tag_of}
-use Rattle.ob_store.specs.State.{Lie}
-use Rattle.ob_vault.specs.State.{Start, World, from_earlier}
-use Rattle.ob_vault.specs.Tied.{TagFits, at_of}
-use Rattle.ob_reopen.specs.declared.closing.Closing.{Closing}
-use Rattle.ob_reopen.specs.declared.listed.Listed.{Listed}
+use Rattle.ob_vault.specs.State.{from_earlier}
+use Rattle.ob_vault.specs.Tied.{at_of}
 use Rattle.ob_reopen.specs.Limits.{blocks_of}
-use Rattle.ob_reopen.specs.Openings.{IsNumbered, IsOf, IsReopened}
+use Rattle.ob_reopen.specs.Openings.{IsNumbered, IsOf}
 use Rattle.ob_reopen.proofs.TableLemmas.{is_of}
 use Rattle.ob_reopen.specs.Reopened.{number_given, opened_start}
 
@@ -44,12 +38,13 @@ given_first closing w numbered q x = elim (cases_eq q closing.region) [
 
 -- the start of a vault that opened it
 pub start_first : (closing : Closing) (a w : World) → a.vault.start ≡ from_earlier (closing.number + closing.blocks - 1) closing.region
-    → w.vault.start.writes ≡ a.vault.start.writes → w.vault.start.region ≡ a.vault.start.region → IsNumbered closing w
+    → w.vault.start.writes ≡ a.vault.start.writes → w.vault.start.region ≡ a.vault.start.region → ((q : ℕ) → w.vault.start.linked q ≡ a.vault.start.linked q) → IsNumbered closing w
     → w.vault.start ≡ opened_start closing []
-start_first closing a w started writes region numbered =
+start_first closing a w started writes region linked numbered =
     let count : w.vault.start.writes ≡ closing.number + closing.blocks - 1 = writes ∙ ap (λ (s : Start). s.writes) started in
     let last : w.vault.start.region ≡ closing.region = region ∙ ap (λ (s : Start). s.region) started in
-    λ i. record { writes = count i; region = last i; given = λ q x. given_first closing w numbered q x i }
+    let none : (q : ℕ) → w.vault.start.linked q ≡ false = λ q. linked q ∙ ap (λ (s : Start). s.linked q) started in
+    λ i. record { writes = count i; region = last i; given = λ q x. given_first closing w numbered q x i; linked = λ q. none q i }
 
 -- ---- those of its tables
 -- whether one of these tables gives a place this number
@@ -104,11 +99,12 @@ module _ (closing : Closing) (listed : List Listed) (a b : World) (numbered : Is
 
   -- the start of a vault that opened them
   pub start_all : a.vault.start ≡ opened_start closing [] → b.vault.start.writes ≡ a.vault.start.writes → b.vault.start.region ≡ a.vault.start.region
-      → b.vault.start ≡ opened_start closing listed
-  start_all was writes region =
+      → ((q : ℕ) → b.vault.start.linked q ≡ a.vault.start.linked q) → b.vault.start ≡ opened_start closing listed
+  start_all was writes region linked =
       let count : b.vault.start.writes ≡ closing.number + closing.blocks - 1 = writes ∙ ap (λ (s : Start). s.writes) was in
       let last : b.vault.start.region ≡ closing.region = region ∙ ap (λ (s : Start). s.region) was in
-      λ i. record { writes = count i; region = last i; given = λ q x. given_all q x i }
+      let none : (q : ℕ) → b.vault.start.linked q ≡ false = λ q. linked q ∙ ap (λ (s : Start). s.linked q) was in
+      λ i. record { writes = count i; region = last i; given = λ q x. given_all q x i; linked = λ q. none q i }
 
 -- ---- a block that was changed
 -- none of the tables gives a place of the closing another number

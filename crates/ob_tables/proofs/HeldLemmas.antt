@@ -1,34 +1,16 @@
 -- The tables in place beside the tables of an engine, after a pass.
-use Rattle.std.proofs.Common.{◌≡◌, ℕ, zero, suc, Bool, true, false, if◌then◌else◌, cond, List, [], ◌∷◌, ◌++◌, Option, Some, None, refl, sym, ◌∙◌, ap, subst, arith}
-use Rattle.std.specs.Prelude.{slice_get, bytes_eq}
-use Rattle.std.specs.Option.{option_and_then, option_map, option_map_or}
-use Rattle.std.proofs.lemmas.Slice.Eq.{bytes_eq-Decides}
-use Rattle.ob_base.specs.declared.config.Public.{Public}
-use Rattle.ob_base.specs.declared.schema.Heading.{Heading}
+use Rattle.ob_tables.proofs.Words.{accessed, ap, AreHeld, arith, Bool, by_shape, bytes_eq, bytes_eq-Decides, changed_at, cond, false, flat_of, Heading, heading-stored, heading_at, headings, headings_of, Held, HoldsTable, if◌then◌else◌, in_slots, Index, index_of, Indexed, is_access, is_index, Join, Lasts, List, None, Option, option_map, option_map_or, Public, refl, represents_lasts, skeleton, slice_get, Slots, Some, Source, Stmt, Stored, stored_at, subst, suc, sym, Tables, true, World, zero, ℕ, [], ◌++◌, ◌∙◌, ◌∷◌, ◌≡◌}
+use Rattle.std.specs.Option.{option_and_then}
 use Rattle.ob_base.specs.declared.schema.Shape.{Shape}
-use Rattle.ob_base.specs.declared.schema.Shape.TheVariants.{Flat as FlatShape, Indexed}
+use Rattle.ob_base.specs.declared.schema.Shape.TheVariants.{Flat as FlatShape}
 use Rattle.ob_base.specs.declared.schema.Table.{Table}
-use Rattle.ob_base.specs.declared.skeleton.Source.{Source}
-use Rattle.ob_base.specs.declared.skeleton.Source.TheVariants.{Table as OneTable, Join}
-use Rattle.ob_base.specs.Indexes.{by_shape}
-use Rattle.ob_base.specs.Stored.{Stored, heading_at, headings, headings_of, stored_at, changed_at}
-use Rattle.ob_row.specs.Slots.{Slots}
-use Rattle.ob_vault.specs.State.{World}
-use Rattle.ob_vault.specs.Calls.{Lasts}
+use Rattle.ob_base.specs.declared.skeleton.Source.TheVariants.{Table as OneTable}
 use Rattle.ob_flat.specs.Flats.{Represents}
-use Rattle.ob_flat.proofs.Tables.{represents_lasts}
-use Rattle.ob_oram.specs.declared.index.Index.{Index}
 use Rattle.ob_oram.proofs.Lasting.{lies_kept}
-use Rattle.ob_sql.specs.declared.stmt.Stmt.{Stmt}
 use Rattle.ob_sql.specs.declared.stmt.Stmt.TheVariants.{Create, Insert, Update, Delete, Drop as DropTable, SelectRows as RowsStmt, SelectTotals as TotalsStmt}
-use Rattle.ob_sql.specs.Skeleton.{skeleton}
 use Rattle.ob_mean.specs.Keyed.{Ask, ask_of, keyed_name}
-use Rattle.ob_mean.specs.Refusals.{is_index, is_indexed}
-use Rattle.ob_mean.specs.Replay.{is_access}
-use Rattle.ob_mean.specs.Verdict.{Held, Tables, access_of, accessed, in_slots, index_of}
-use Rattle.ob_mean.proofs.VerdictLemmas.{heading-stored}
-use Rattle.ob_tables.specs.Engines.{flat_of}
-use Rattle.ob_tables.specs.Telling.{AreHeld, HoldsTable}
+use Rattle.ob_mean.specs.Refusals.{is_indexed}
+use Rattle.ob_mean.specs.Verdict.{access_of}
 use Rattle.ob_tables.proofs.TableLemmas.{AreNamed, named, shifted, unmoved}
 
 -- they have the same headings
@@ -60,11 +42,9 @@ module _ (ts : Tables) (stmt : Stmt) where
   unread_at name none = unread name none (stored_at name ts) refl
 
 pub not_accessed : (p : Public) (ts : Tables) (stmt : Stmt) → headings ts ≡ headings_of p.tables → is_access p (skeleton stmt) ≡ false → accessed ts stmt ≡ None
-not_accessed p ts (Create table columns capacity shape) same none = refl
 not_accessed p ts (Insert table columns values) same none = unread_at ts (Insert table columns values) table (ap (λ (hs : List Heading). is_index hs table) same ∙ none)
 not_accessed p ts (Update table sets search) same none = unread_at ts (Update table sets search) table (ap (λ (hs : List Heading). is_index hs table) same ∙ none)
 not_accessed p ts (Delete table search) same none = unread_at ts (Delete table search) table (ap (λ (hs : List Heading). is_index hs table) same ∙ none)
-not_accessed p ts (DropTable table) same none = refl
 not_accessed p ts (RowsStmt q) same none = of_source q.source refl none
   where
     of_source : (source : Source) → q.source ≡ source → is_access p (skeleton (RowsStmt (record q { source = source }))) ≡ false → accessed ts (RowsStmt q) ≡ None
@@ -73,7 +53,7 @@ not_accessed p ts (RowsStmt q) same none = of_source q.source refl none
         ∙ unread_at ts (RowsStmt q) name (ap (λ (hs : List Heading). is_index hs name) same ∙ none)
     of_source (Join a b on equals) is none =
         ap (λ (x : Source). option_and_then (access_of (RowsStmt q)) (option_and_then (λ n. stored_at n ts) (keyed_name (RowsStmt (record q { source = x }))))) is
-not_accessed p ts (TotalsStmt q) same none = refl
+not_accessed p ts other same none = refl
 
 -- so it is over the tables in place
 pub held_plain : (p : Public) (indexes : List Index) (tables : Tables) (w : World) (stmt : Stmt) → AreHeld p.pack indexes p.tables tables w → is_access p (skeleton stmt) ≡ false → accessed tables stmt ≡ None

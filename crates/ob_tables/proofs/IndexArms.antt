@@ -1,34 +1,7 @@
 -- How a statement on an index is served, by the arms of its access.
-use Rattle.std.proofs.Common.{◌≡◌, ◌-◌, ◌+◌, ◌%◌, ◌^◌, ℕ, true, false, List, [], length, None, Ok, Err, Global, sym, subst}
-use Rattle.std.specs.declared.vec.Vec.{Vec}
-use Rattle.ob_base.specs.declared.emit.EmitErr.{EmitErr}
-use Rattle.ob_base.specs.declared.seen.Seen.{Seen}
-use Rattle.ob_base.specs.Events.{Event}
-use Rattle.ob_base.specs.Schemas.{Columns}
-use Rattle.ob_room.specs.RoomState.{RoomState}
-use Rattle.ob_store.specs.State.{StoreState}
+use Rattle.ob_tables.proofs.Words.{Agrees, answer_of, Columns, count_of, draw_at, DrawPlace, EmitErr, EmitsGot, Engine, Err, Event, false, Global, Got, got_in, got_outcome, Index, is_stop, IsAccessed, IsDone, Keyed, length, List, None, Ok, OpErr, OramErr, Outcome, refusal_now, RevState, RoomState, RunStop, Seen, seen_cut, seen_whole, Serves, Stmt, stop_of, StoreState, subst, sym, true, Vault, Vec, ℕ, [], ◌%◌, ◌+◌, ◌-◌, ◌^◌, ◌≡◌}
 use Rattle.ob_store.specs.Calls.{ChangesNothing}
-use Rattle.ob_vault.specs.State.{RevState}
-use Rattle.ob_vault.specs.declared.vault.Vault.{Vault}
 use Rattle.ob_vault.specs.Places.{at}
-use Rattle.ob_flat.specs.declared.fault.OpErr.{OpErr}
-use Rattle.ob_oram.specs.declared.fault.OramErr.{OramErr}
-use Rattle.ob_oram.specs.declared.index.Index.{Index}
-use Rattle.ob_oram.specs.declared.op.Got.{Got}
-use Rattle.ob_oram.specs.Ops.{got_in}
-use Rattle.ob_seal.specs.Draws.{DrawPlace, draw_at}
-use Rattle.ob_sql.specs.declared.stmt.Stmt.{Stmt}
-use Rattle.ob_verdict.specs.declared.outcome.Outcome.{Outcome}
-use Rattle.ob_verdict.specs.Outcomes.{refusal_now}
-use Rattle.ob_keyed.specs.declared.keyed.Keyed.{Keyed}
-use Rattle.ob_keyed.specs.Answering.{got_outcome}
-use Rattle.ob_keyed.specs.Seeing.{seen_cut, seen_whole}
-use Rattle.ob_tables.specs.declared.engine.Engine.{Engine}
-use Rattle.ob_tables.specs.declared.stop.RunStop.{RunStop}
-use Rattle.ob_tables.specs.Agreeing.{Agrees, count_of}
-use Rattle.ob_tables.specs.Indexed.{EmitsGot, IsAccessed, IsDone}
-use Rattle.ob_tables.specs.Running.{answer_of, is_stop, stop_of}
-use Rattle.ob_tables.specs.Serving.{Serves}
 use Rattle.ob_tables.specs.Stops.{error_of}
 use Rattle.ob_tables.proofs.IndexEmits.{answered_got}
 use Rattle.ob_tables.proofs.IndexHalts.{serves_halted}

@@ -1,53 +1,25 @@
 -- What a statement on an index emits.
-use Rattle.std.proofs.Common.{◌≡◌, ◌<◌, ◌^◌, ℕ, List, [], ◌∷◌, ◌++◌, length, Option, None, Ok, Result, Global, refl, sym, ◌∙◌, ap, subst, arith}
-use Rattle.std.specs.Option.{option_map_or}
-use Rattle.std.specs.declared.vec.Vec.{Vec}
-use Rattle.std.proofs.lemmas.List.{length-map}
-use Rattle.ob_base.specs.declared.emit.EmitErr.{EmitErr}
-use Rattle.ob_base.specs.declared.schema.Heading.{Heading}
+use Rattle.ob_tables.proofs.Words.{Agrees, Answer, answer_labels, ap, arith, Columns, count_of, draw_at, DrawPlace, Draws, EmitErr, EmitsGot, Engine, Event, FitsColumns, Global, Got, got_in, got_outcome, HasNoRows, Heading, headings, headings_of, Index, IsAccessed, IsDone, Join, Keyed, length, length-map, List, None, Ok, Option, option_map_or, printed_places, ReadsTrue, refl, refusal_now, Result, RevState, RoomState, selects_rows, Source, Stmt, StoreState, subst, sym, Tables, Vault, Vec, verdict, world_of, ℕ, [], ◌++◌, ◌<◌, ◌^◌, ◌∙◌, ◌∷◌, ◌≡◌}
 use Rattle.ob_base.specs.declared.shown.Shown.{Shown}
-use Rattle.ob_base.specs.declared.skeleton.Source.{Source}
-use Rattle.ob_base.specs.declared.skeleton.Source.TheVariants.{Table as OneTable, Join}
-use Rattle.ob_base.specs.Events.{Event, Head, Close, Leads, Row as RowEvent, row_events}
-use Rattle.ob_base.specs.Schemas.{Columns}
-use Rattle.ob_base.specs.Stored.{headings, headings_of}
-use Rattle.ob_room.specs.RoomState.{RoomState}
-use Rattle.ob_store.specs.State.{StoreState}
+use Rattle.ob_base.specs.declared.skeleton.Source.TheVariants.{Table as OneTable}
+use Rattle.ob_base.specs.Events.{Head, Close, Leads, Row as RowEvent, row_events}
 use Rattle.ob_store.specs.Calls.{ChangesNothing}
-use Rattle.ob_vault.specs.State.{RevState}
-use Rattle.ob_vault.specs.declared.vault.Vault.{Vault}
 use Rattle.ob_vault.specs.Places.{at}
 use Rattle.ob_emit.specs.Emitting.{labels_of}
-use Rattle.ob_oram.specs.declared.index.Index.{Index}
-use Rattle.ob_oram.specs.declared.op.Got.{Got}
-use Rattle.ob_oram.specs.Ops.{got_in}
 use Rattle.ob_path.specs.Access as Tree
 use Rattle.ob_row.specs.Rows.{Row}
-use Rattle.ob_seal.specs.Draws.{DrawPlace, draw_at}
 use Rattle.ob_sql.specs.declared.stmt.SelectRows.{SelectRows}
-use Rattle.ob_sql.specs.declared.stmt.Stmt.{Stmt}
 use Rattle.ob_sql.specs.declared.stmt.Stmt.TheVariants.{Create, Insert, Update, Delete, Drop as DropTable, SelectRows as RowsStmt, SelectTotals as TotalsStmt}
-use Rattle.ob_mean.specs.declared.answer.Answer.{Answer}
 use Rattle.ob_mean.specs.Keyed.{one_table}
 use Rattle.ob_mean.specs.Prints.{Prints}
-use Rattle.ob_mean.specs.Step.{printed_places, rows_answer, select_columns}
+use Rattle.ob_mean.specs.Step.{rows_answer, select_columns}
 use Rattle.ob_mean.specs.declared.answer.Answer.TheVariants as A
-use Rattle.ob_mean.specs.Lawful.{selects_rows}
-use Rattle.ob_row.specs.Spelling.{FitsColumns}
 use Rattle.std.specs.List.{All}
-use Rattle.ob_mean.specs.Verdict.{Draws, Tables, verdict}
 use Rattle.ob_verdict.specs.Answering.{found}
-use Rattle.ob_verdict.specs.Outcomes.{refusal_now}
-use Rattle.ob_keyed.specs.declared.keyed.Keyed.{Keyed}
-use Rattle.ob_keyed.specs.Answering.{got_answer, got_outcome, put_answer}
+use Rattle.ob_keyed.specs.Answering.{got_answer, put_answer}
 use Rattle.ob_keyed.specs.Emitting.{AreShown, EmitsFound, answer_events}
 use Rattle.ob_keyed.proofs.Found.{prints_found}
-use Rattle.ob_tables.specs.declared.engine.Engine.{Engine}
-use Rattle.ob_tables.specs.Agreeing.{Agrees, count_of, world_of}
-use Rattle.ob_tables.specs.Indexed.{EmitsGot, IsAccessed, IsDone}
-use Rattle.ob_tables.specs.Running.{HasNoRows}
 use Rattle.ob_tables.specs.Serving.{Answered}
-use Rattle.ob_tables.specs.Telling.{ReadsTrue, answer_labels}
 use Rattle.ob_tables.proofs.FoundLemmas.{heading_found}
 use Rattle.ob_tables.proofs.HeldLemmas.{held_headings}
 use Rattle.ob_tables.proofs.IndexMeans.{stood, told_by}
@@ -60,24 +32,15 @@ use Rattle.ob_verdict.proofs.RowEvents.{are_rows}
 -- one row at most is found
 found_few : (got : Tree.Got Row) → length (found got) < 2 ^ 32
 found_few Tree.Absent = omega (arith)
-found_few (Tree.Found row) = omega (arith)
-found_few Tree.Done = omega (arith)
-found_few Tree.Duplicate = omega (arith)
-found_few Tree.OutOfRange = omega (arith)
+found_few other = omega (arith)
 
 put_bare : (got : Tree.Got Row) → IsBare (put_answer got)
 put_bare Tree.Absent = tt
-put_bare (Tree.Found row) = tt
-put_bare Tree.Done = tt
-put_bare Tree.Duplicate = tt
-put_bare Tree.OutOfRange = tt
+put_bare other = tt
 
 put_silent : (table : List ℕ) (columns : Option (List (List ℕ))) (values : List Rattle.ob_sql.specs.declared.stmt.Literal.Literal) (got : Tree.Got Row) → HasNoRows (got_outcome (Insert table columns values) got)
 put_silent table columns values Tree.Absent = tt
-put_silent table columns values (Tree.Found row) = tt
-put_silent table columns values Tree.Done = tt
-put_silent table columns values Tree.Duplicate = tt
-put_silent table columns values Tree.OutOfRange = tt
+put_silent table columns values other = tt
 
 module _ {R : Type 0} (state : R → RevState) (stmt : Stmt) (old : Engine R) (s s1 : StoreState) (v : Vault R) (room : RoomState) (t : StoreState) (k draw : ℕ) (keyed : Keyed) (indexes : Vec Index Global) (draws : DrawPlace)
     (agrees : Agrees state old s) (rests : ChangesNothing s s1) (now : refusal_now old.public (count_of old s) stmt ≡ None)
@@ -168,9 +131,6 @@ module _ {R : Type 0} (state : R → RevState) (stmt : Stmt) (old : Engine R) (s
   module _ (cut : E → E → List Event → Type 0) (faults : E → ℕ) where
     answered_by : (z : Stmt) → stmt ≡ z → EmitsGot {T = Unit {0}} grew cut faults z done.before.schema (got_in got) (Ok tt) out_old out_new
         → Answered state grew stmt (got_outcome stmt (got_in got)) old s t out_old out_new × (faults out_new ≡ faults out_old)
-    answered_by (Create table columns capacity shape) is emits = let named = accessed.keyed in absurd (cc (named, is))
-    answered_by (DropTable table) is emits = let named = accessed.keyed in absurd (cc (named, is))
-    answered_by (TotalsStmt q) is emits = let named = accessed.keyed in absurd (cc (named, is))
     answered_by (Insert table columns values) is emits = (
       answered_bare (subst (λ (x : Stmt). HasNoRows (got_outcome x (got_in got))) (sym is) (put_silent table columns values (got_in got)))
           (λ hs. subst (λ (x : Stmt). IsBare (got_answer x hs (got_in got))) (sym is) (put_bare (got_in got))) emits.same,
@@ -191,6 +151,7 @@ module _ {R : Type 0} (state : R → RevState) (stmt : Stmt) (old : Engine R) (s
           (answered_found q is (Ok tt) cut faults emits emits.gives.ok),
       emits.gives.cause,
     )
+    answered_by other is emits = let named = accessed.keyed in absurd (cc (named, is))
 
     pub answered_got : EmitsGot {T = Unit {0}} grew cut faults stmt done.before.schema (got_in got) (Ok tt) out_old out_new
         → Answered state grew stmt (got_outcome stmt (got_in got)) old s t out_old out_new × (faults out_new ≡ faults out_old)

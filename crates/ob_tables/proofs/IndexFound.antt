@@ -1,80 +1,43 @@
 -- A statement on an index, before its access.
-use Rattle.std.proofs.Common.{◌≡◌, inl, ◌≤◌, ◌-◌, ◌+◌, ◌<◌, ℕ, Bool, true, false, List, [], ◌∷◌, ◌++◌, length, Option, Some, None, Ok, Err, Result, Global, refl, sym, ◌∙◌, ap, subst, arith, append-nil}
-use Rattle.std.specs.Prelude.{IfOk, OnOk, drop, is_some, max, nat_lt, slice_get, slice_set, take}
+use Rattle.ob_tables.proofs.Words.{Access, Agrees, Answer, answer_labels, ap, append-nil, arith, Bool, Columns, columns_at, count_of, Cut, DrawPlace, Draws, drop, earlier, Engine, engine_start, Err, Event, false, Global, Got, Heading, headings_of, held_if, IfOk, Index, index_kept, inl, is_late, IsAccessed, IsDone, IsIndex, Join, Keyed, Lawful, length, limits_of, List, max, nat_lt, nat_tests, None, none, Ok, Option, option_map_or, OramErr, printed_places, Public, refl, refusal_now, Result, RevState, RoomState, seen, seen_cut, Serves, skeleton, slice_get, slice_set, Some, Source, Stmt, stored_region, StoreState, subst, sym, Tables, take, true, Vault, Vec, verdict, went_rests, whole_run, width, World, world_of, ℕ, [], ◌++◌, ◌+◌, ◌-◌, ◌<◌, ◌∙◌, ◌∷◌, ◌≡◌, ◌≤◌}
+use Rattle.std.specs.Prelude.{OnOk, is_some}
 use Rattle.std.proofs.Math.Seq.{take-append_seam}
 use Rattle.std.proofs.lemmas.List.{length-set}
-use Rattle.std.specs.declared.vec.Vec.{Vec}
-use Rattle.std.proofs.lemmas.Bool.Decides.{nat_tests}
-use Rattle.ob_base.specs.declared.config.Public.{Public}
 use Rattle.ob_base.specs.declared.schema.Table.{Table}
-use Rattle.ob_base.specs.declared.seen.End.TheVariants.{Cut}
-use Rattle.ob_base.specs.Events.{Event, Head, Close, row_events}
+use Rattle.ob_base.specs.Events.{Head, Close, row_events}
 use Rattle.ob_base.specs.Indexes.{rows_open}
-use Rattle.ob_base.specs.Schemas.{width}
-use Rattle.ob_base.specs.Stored.{stored_region}
 use Rattle.ob_blocks.specs.Idle.{IsIdle}
 use Rattle.ob_row.proofs.BagLemmas.{Same-refl}
-use Rattle.ob_store.specs.State.{StoreState}
 use Rattle.ob_store.specs.Calls.{ChangesNothing}
-use Rattle.ob_vault.specs.State.{RevState, World, earlier}
 use Rattle.ob_vault.specs.Places.{at}
-use Rattle.ob_vault.specs.Calls.{none}
 use Rattle.ob_vault.specs.Words.{MayStart}
-use Rattle.ob_vault.proofs.WordLemmas.{went_rests}
-use Rattle.ob_base.specs.declared.access.Access.{Access}
-use Rattle.ob_oram.specs.declared.index.Index.{Index}
-use Rattle.ob_oram.specs.Indexes.{IsIndex}
 use Rattle.ob_oram.specs.Scripts.{script_length}
-use Rattle.ob_oram.proofs.Lasting.{index_kept}
-use Rattle.ob_seal.specs.Draws.{DrawPlace}
-use Rattle.ob_script.specs.Saved.{whole_run}
-use Rattle.ob_sql.specs.declared.stmt.Stmt.{Stmt}
-use Rattle.ob_sql.specs.Skeleton.{skeleton}
-use Rattle.ob_mean.specs.declared.answer.Answer.{Answer}
 use Rattle.ob_mean.specs.declared.answer.Answer.TheVariants as A
-use Rattle.ob_mean.specs.Lawful.{Lawful}
 use Rattle.ob_mean.specs.Prints.{Prints}
-use Rattle.ob_mean.specs.Replay.{cut_at, held_if}
-use Rattle.ob_mean.specs.Verdict.{Draws, Tables, leaf_gone, seen, verdict, ended as seen_to}
-use Rattle.ob_verdict.specs.Outcomes.{Partly, refusal_now}
+use Rattle.ob_mean.specs.Replay.{cut_at}
+use Rattle.ob_mean.specs.Verdict.{leaf_gone, ended as seen_to}
+use Rattle.ob_verdict.specs.Outcomes.{Partly}
 use Rattle.ob_verdict.proofs.SeenProof.{access_shows_leaf}
 use Rattle.ob_base.specs.declared.fault.NoMemory.{NoMemory}
-use Rattle.ob_room.specs.RoomState.{RoomState}
-use Rattle.ob_keyed.specs.declared.keyed.Keyed.{Keyed}
 use Rattle.ob_keyed.specs.Asking.{IsKeyed}
 use Rattle.ob_keyed.specs.Serving.{GoneBy}
-use Rattle.ob_keyed.specs.Seeing.{seen_cut}
 use Rattle.ob_keyed.proofs.Seen.{cuts_alike}
 use Rattle.ob_keyed.proofs.Told.{finds_access}
 use Rattle.std.specs.List.{All}
-use Rattle.std.specs.Option.{option_map_or}
-use Rattle.ob_base.specs.declared.schema.Heading.{Heading}
-use Rattle.ob_base.specs.declared.skeleton.Source.{Source}
-use Rattle.ob_base.specs.declared.skeleton.Source.TheVariants.{Table as OneTable, Join}
-use Rattle.ob_base.specs.Schemas.{Columns}
-use Rattle.ob_base.specs.Stored.{headings_of}
-use Rattle.ob_vault.specs.declared.vault.Vault.{Vault}
-use Rattle.ob_oram.specs.declared.fault.OramErr.{OramErr}
-use Rattle.ob_oram.specs.declared.op.Got.{Got}
+use Rattle.ob_base.specs.declared.skeleton.Source.TheVariants.{Table as OneTable}
 use Rattle.ob_oram.specs.Accessing.{HasLeaves, leaves_after}
-use Rattle.ob_names.specs.Names.{columns_at, source_columns}
+use Rattle.ob_names.specs.Names.{source_columns}
 use Rattle.ob_sql.specs.declared.stmt.SelectRows.{SelectRows}
 use Rattle.ob_sql.specs.declared.stmt.Stmt.TheVariants.{Create, Insert, Update, Delete, Drop as DropTable, SelectRows as RowsStmt, SelectTotals as TotalsStmt}
 use Rattle.ob_mean.specs.Keyed.{one_table}
-use Rattle.ob_mean.specs.Refusals.{limits_of}
-use Rattle.ob_mean.specs.Step.{printed_places, select_columns}
-use Rattle.ob_mean.specs.Verdict.{is_late}
+use Rattle.ob_mean.specs.Step.{select_columns}
 use Rattle.ob_verdict.proofs.AcceptedProof.{places_fit}
 use Rattle.ob_tables.specs.Indexed.{MayEmitGot, PrintsColumns}
 use Rattle.ob_tables.proofs.FoundLemmas.{heading_found}
 use Rattle.ob_tables.proofs.IndexTables.{set_here}
 use Rattle.ob_tables.proofs.SourceColumns.{listed_few}
-use Rattle.ob_tables.specs.declared.engine.Engine.{Engine}
 use Rattle.ob_tables.specs.declared.stop.RunStop.TheVariants as Stops
-use Rattle.ob_tables.specs.Agreeing.{Agrees, count_of, engine_start, world_of}
-use Rattle.ob_tables.specs.Indexed.{IsAccessed, IsDone}
-use Rattle.ob_tables.specs.Serving.{Serves}
-use Rattle.ob_tables.specs.Telling.{Represents, SeenCut, answer_labels}
+use Rattle.ob_tables.specs.Telling.{Represents, SeenCut}
 use Rattle.ob_tables.proofs.HeldLemmas.{held_headings, stood_at}
 use Rattle.ob_tables.proofs.RunLemmas.{engine_left, ran_unasked}
 use Rattle.ob_tables.proofs.SealLemmas.{keeps_rests}
@@ -83,10 +46,8 @@ use Rattle.ob_tables.proofs.ToldLemmas.{few_asked, refused_none}
 
 -- ---- nothing is a first part of any answer
 some_prints : (labels : List (List ℕ)) (a : Answer) → (whole : List Event) × Prints labels a whole
-some_prints labels A.Done = ([], refl)
-some_prints labels (A.Changed n) = ([], refl)
 some_prints labels (A.Rows rows) = (Head labels ∷ (row_events rows ++ Close (length rows) ∷ []), record { printed = rows; same = Same-refl rows; is = refl })
-some_prints labels (A.Refused r) = ([], refl)
+some_prints labels other = ([], refl)
 
 pub partly_none : (labels : List (List ℕ)) (a : Answer) → Partly labels a []
 partly_none labels a = let all = some_prints labels a in record { whole = all.0; prints = all.1; begun = (all.0, refl) }
@@ -246,13 +207,8 @@ module _ {R : Type 0} (state : R → RevState) (stmt : Stmt) (old : Engine R) (s
       }
 
   may_by : (z : Stmt) → stmt ≡ z → MayEmitGot z index.schema
-  may_by (Create _ columns capacity shape) is = tt
-  may_by (Insert _ columns values) is = tt
-  may_by (Update _ sets cond) is = tt
-  may_by (Delete _ cond) is = tt
-  may_by (DropTable _) is = tt
   may_by (RowsStmt q) is = shown_columns q is
-  may_by (TotalsStmt q) is = tt
+  may_by other is = tt
 
   -- behind its access
   module _ (draw : ℕ) (keyed : Keyed) (left : List Index) (room : RoomState) (before after : World) (done : IsDone stmt k draw keyed old.indexes.items left old.room room before after) where

@@ -1,53 +1,23 @@
 -- A statement on an index whose access is done, and whose emitter gave up.
-use Rattle.std.proofs.Common.{◌≡◌, inl, inr, ◌<◌, ◌-◌, ◌+◌, ◌%◌, ◌^◌, ℕ, Bool, true, nat_lt, List, [], length, Option, Some, None, Ok, Err, Global, refl, sym, ◌∙◌, ap, subst, arith, append-nil}
-use Rattle.std.specs.Prelude.{IsSome}
-use Rattle.std.specs.declared.vec.Vec.{Vec}
-use Rattle.std.proofs.lemmas.Bool.Decides.{nat_tests}
-use Rattle.std.proofs.lemmas.List.{length-append}
-use Rattle.ob_base.specs.declared.access.Access.{Access}
-use Rattle.ob_base.specs.declared.emit.EmitErr.{EmitErr}
+use Rattle.ob_tables.proofs.Words.{Access, access_script, Agrees, answer_labels, answer_of, ap, append-nil, arith, Bool, count_of, draw_at, DrawPlace, EmitErr, EmitsGot, Engine, Err, Event, Global, Got, got_in, held_if, Index, inl, inr, is_stop, IsAccessed, IsDone, IsSome, Keyed, Lawful, length, length-append, List, Means, nat_lt, nat_tests, None, Ok, Option, printed_places, RanStatement, ReadsTrue, refl, refusal_now, RevState, RoomState, RunStop, Seen, seen_cut, seen_whole, Serves, skeleton, Some, Stmt, StoreState, subst, sym, Tables, true, two, Vault, Vec, verdict, Went, whole_run, World, world_of, ℕ, [], ◌%◌, ◌+◌, ◌-◌, ◌<◌, ◌^◌, ◌∙◌, ◌≡◌}
 use Rattle.ob_base.specs.declared.emit.EmitErr.TheVariants as EmitErrs
-use Rattle.ob_base.specs.declared.seen.Seen.{Seen}
-use Rattle.ob_base.specs.Events.{Event}
 use Rattle.ob_emit.specs.Emitting.{labels_of}
-use Rattle.ob_room.specs.RoomState.{RoomState}
-use Rattle.ob_store.specs.State.{StoreState}
 use Rattle.ob_store.specs.Calls.{ChangesNothing}
-use Rattle.ob_vault.specs.State.{RevState, World}
-use Rattle.ob_vault.specs.declared.vault.Vault.{Vault}
 use Rattle.ob_vault.specs.Places.{at}
-use Rattle.ob_vault.specs.Calls.{Went, two}
 use Rattle.ob_flat.specs.declared.fault.OpErr.TheVariants as OpErrs
-use Rattle.ob_oram.specs.declared.index.Index.{Index}
-use Rattle.ob_oram.specs.declared.op.Got.{Got}
-use Rattle.ob_oram.specs.Ops.{got_in}
-use Rattle.ob_oram.specs.Scripts.{access_script, read_script, write_script}
+use Rattle.ob_oram.specs.Scripts.{read_script, write_script}
 use Rattle.ob_oram.proofs.AccessRuns.{access_parts, length-reads}
-use Rattle.ob_script.specs.Saved.{whole_run}
 use Rattle.ob_script.specs.Script.{index_part_of}
-use Rattle.ob_seal.specs.Draws.{DrawPlace, draw_at}
 use Rattle.ob_select.specs.Memory.{AtEmission}
 use Rattle.ob_sql.specs.declared.stmt.SelectRows.{SelectRows}
-use Rattle.ob_sql.specs.declared.stmt.Stmt.{Stmt}
 use Rattle.ob_sql.specs.declared.stmt.Stmt.TheVariants.{Create, Insert, Update, Delete, Drop as DropTable, SelectRows as RowsStmt, SelectTotals as TotalsStmt}
-use Rattle.ob_sql.specs.Skeleton.{skeleton}
-use Rattle.ob_mean.specs.Lawful.{Lawful}
-use Rattle.ob_mean.specs.Replay.{held_if}
-use Rattle.ob_mean.specs.Step.{printed_places}
-use Rattle.ob_mean.specs.Verdict.{Tables, verdict}
-use Rattle.ob_verdict.specs.Outcomes.{MayEmit, Partly, refusal_now}
-use Rattle.ob_keyed.specs.declared.keyed.Keyed.{Keyed}
+use Rattle.ob_verdict.specs.Outcomes.{MayEmit, Partly}
 use Rattle.ob_keyed.specs.Emitting.{EmitsFound, answer_events}
-use Rattle.ob_keyed.specs.Seeing.{seen_cut, seen_whole}
 use Rattle.ob_keyed.proofs.Seen.{script_is, shows_script}
-use Rattle.ob_tables.specs.declared.engine.Engine.{Engine}
-use Rattle.ob_tables.specs.declared.stop.RunStop.{RunStop}
 use Rattle.ob_tables.specs.declared.stop.RunStop.TheVariants as Stops
-use Rattle.ob_tables.specs.Agreeing.{Agrees, count_of, world_of}
-use Rattle.ob_tables.specs.Indexed.{EmitsGot, IsAccessed, IsDone}
-use Rattle.ob_tables.specs.Running.{RanStatement, SinkStops, answer_of, is_stop}
-use Rattle.ob_tables.specs.Serving.{Means, Serves, StopsEmission}
-use Rattle.ob_tables.specs.Telling.{IsNotTampered, ReadsTrue, ReadsTrueUntil, answer_labels, is_refused}
+use Rattle.ob_tables.specs.Running.{SinkStops}
+use Rattle.ob_tables.specs.Serving.{StopsEmission}
+use Rattle.ob_tables.specs.Telling.{IsNotTampered, ReadsTrueUntil, is_refused}
 use Rattle.ob_tables.specs.Stops.{error_of}
 use Rattle.ob_tables.proofs.BegunLemmas.{run_reads}
 use Rattle.ob_tables.proofs.EmitLemmas.{unfit_none}
@@ -63,26 +33,17 @@ use Rattle.ob_tables.proofs.ToldLemmas.{refused_none}
 never_full : (stop : RunStop) → IsOfOthers stop → stop ≡ Stops.StashFull → ⊥
 never_full Stops.NoMemory other is = absurd (cc is)
 never_full Stops.SinkFault other is = absurd (cc is)
-never_full (Stops.Tampered q x) other is = other
-never_full Stops.StoreFault other is = other
-never_full Stops.StashFull other is = other
-never_full Stops.KeeperFault other is = other
+never_full another other is = other
 
 refuses_none : (stop : RunStop) → IsOfOthers stop → IsNotTampered stop
 refuses_none Stops.NoMemory other = refl
 refuses_none Stops.SinkFault other = refl
-refuses_none (Stops.Tampered q x) other = absurd other
-refuses_none Stops.StoreFault other = absurd other
-refuses_none Stops.StashFull other = absurd other
-refuses_none Stops.KeeperFault other = absurd other
+refuses_none another other = absurd other
 
 ends_cut : {E : Type 0} (grew cut : E → E → List Event → Type 0) (stop : RunStop) (a b : E) (part : List Event) → IsOfOthers stop → cut a b part → StopsEmission grew cut stop a b part
 ends_cut grew cut Stops.NoMemory a b part other ends = inr ends
 ends_cut grew cut Stops.SinkFault a b part other ends = ends
-ends_cut grew cut (Stops.Tampered q x) a b part other ends = absurd other
-ends_cut grew cut Stops.StoreFault a b part other ends = absurd other
-ends_cut grew cut Stops.StashFull a b part other ends = absurd other
-ends_cut grew cut Stops.KeeperFault a b part other ends = absurd other
+ends_cut grew cut another a b part other ends = absurd other
 
 module _ {R : Type 0} (state : R → RevState) (stmt : Stmt) (old : Engine R) (s s1 : StoreState) (v : Vault R) (room : RoomState) (t : StoreState) (k draw : ℕ) (keyed : Keyed) (indexes : Vec Index Global) (draws : DrawPlace)
     (agrees : Agrees state old s) (rests : ChangesNothing s s1) (now : refusal_now old.public (count_of old s) stmt ≡ None)
@@ -213,13 +174,8 @@ module _ {R : Type 0} (state : R → RevState) (stmt : Stmt) (old : Engine R) (s
   -- nothing else emits
   halted_by : (z : Stmt) → stmt ≡ z → (error : EmitErr) → EmitsGot {T = Unit {0}} grew cut faults z x.schema (got_in got) (Err error) out_old out_new
       → Serves state grew cut faults stmt (answer_of (error_of error)) old s (engine_left old indexes draws v room old.public.tables now_seen (is_stop (answer_of (error_of error)))) t out_old out_new
-  halted_by (Create table columns capacity shape) is error emits = absurd emits.never
-  halted_by (Insert table columns values) is error emits = absurd emits.never
-  halted_by (Update table sets cond) is error emits = absurd emits.never
-  halted_by (Delete table cond) is error emits = absurd emits.never
-  halted_by (DropTable table) is error emits = absurd emits.never
   halted_by (RowsStmt q) is error emits = serves_halt q is error emits
-  halted_by (TotalsStmt q) is error emits = absurd emits.never
+  halted_by other is error emits = absurd emits.never
 
   pub serves_halted : (error : EmitErr) → EmitsGot {T = Unit {0}} grew cut faults stmt x.schema (got_in got) (Err error) out_old out_new
       → Serves state grew cut faults stmt (answer_of (error_of error)) old s (engine_left old indexes draws v room old.public.tables now_seen (is_stop (answer_of (error_of error)))) t out_old out_new

@@ -1,21 +1,9 @@
 -- The tables in place beside those of an engine, behind an access of one of its indexes.
-use Rattle.std.proofs.Common.{◌≡◌, inl, ℕ, zero, suc, Bool, true, false, cond, List, [], ◌∷◌, Option, Some, refl, sym, ◌∙◌, ap, subst, arith}
-use Rattle.std.specs.Prelude.{slice_get, slice_set, bytes_eq, if◌then◌else◌}
-use Rattle.std.proofs.lemmas.Slice.Eq.{bytes_eq-Decides}
-use Rattle.ob_base.specs.declared.schema.Heading.{Heading}
+use Rattle.ob_tables.proofs.Words.{ap, AreHeld, AreTables, arith, Bool, bytes_eq, bytes_eq-Decides, changed_at, cond, false, flat_of, Heading, Held, HoldsTable, if◌then◌else◌, Index, index_of, Indexed, inl, Lasts, Lies, List, Option, others_of, refl, represents_lasts, slice_get, slice_set, Some, Stored, stored_at, subst, suc, sym, Tables, true, two, World, zero, ℕ, [], ◌∙◌, ◌∷◌, ◌≡◌}
 use Rattle.ob_base.specs.declared.schema.Shape.{Shape}
-use Rattle.ob_base.specs.declared.schema.Shape.TheVariants.{Flat as FlatShape, Indexed}
+use Rattle.ob_base.specs.declared.schema.Shape.TheVariants.{Flat as FlatShape}
 use Rattle.ob_base.specs.declared.schema.Table.{Table}
-use Rattle.ob_base.specs.Stored.{Stored, changed_at, stored_at}
-use Rattle.ob_vault.specs.State.{World}
-use Rattle.ob_vault.specs.Calls.{Lasts, two}
-use Rattle.ob_flat.proofs.Tables.{represents_lasts}
-use Rattle.ob_oram.specs.declared.index.Index.{Index}
-use Rattle.ob_oram.specs.Indexes.{Lies}
 use Rattle.ob_oram.proofs.Lasting.{lies_kept}
-use Rattle.ob_mean.specs.Verdict.{Held, Tables, index_of}
-use Rattle.ob_tables.specs.Engines.{AreTables, flat_of, others_of}
-use Rattle.ob_tables.specs.Telling.{AreHeld, HoldsTable}
 use Rattle.ob_tables.proofs.IndexTables.{this, that, apart_stash, apart_table, set_at, x_in}
 use Rattle.ob_tables.proofs.TableLemmas.{AreNamed, named}
 

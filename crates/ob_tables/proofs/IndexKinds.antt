@@ -1,56 +1,41 @@
 -- What a statement that accesses an index leaves of what is public, and what it draws.
-use Rattle.std.proofs.Common.{◌≡◌, ◌+◌, ◌%◌, ◌^◌, ℕ, suc, Bool, true, false, cond, if◌then◌else◌, List, [], ◌∷◌, Option, Some, None, refl, sym, ◌∙◌, ap, arith}
-use Rattle.std.specs.Prelude.{slice_get, bytes_eq}
-use Rattle.std.specs.Option.{option_map_or}
-use Rattle.ob_base.specs.declared.config.Public.{Public}
-use Rattle.ob_base.specs.declared.schema.Heading.{Heading}
+use Rattle.ob_tables.proofs.Words.{ap, arith, Bool, by_shape, bytes_eq, cond, drawn_by, false, has_index, Heading, heading_at, headings_of, if◌then◌else◌, Indexed, is_access, is_index, IsAt, Join, List, None, Option, option_map_or, Public, refl, skeleton, slice_get, Some, Source, Stmt, suc, sym, true, ℕ, [], ◌%◌, ◌+◌, ◌^◌, ◌∙◌, ◌∷◌, ◌≡◌}
 use Rattle.ob_base.specs.declared.schema.Shape.{Shape}
-use Rattle.ob_base.specs.declared.schema.Shape.TheVariants.{Flat as FlatShape, Indexed}
+use Rattle.ob_base.specs.declared.schema.Shape.TheVariants.{Flat as FlatShape}
 use Rattle.ob_base.specs.declared.schema.Table.{Table}
-use Rattle.ob_base.specs.declared.skeleton.Source.{Source}
-use Rattle.ob_base.specs.declared.skeleton.Source.TheVariants.{Table as OneTable, Join}
+use Rattle.ob_base.specs.declared.skeleton.Source.TheVariants.{Table as OneTable}
 use Rattle.ob_base.specs.declared.skeleton.Skeleton.TheVariants.{Rows as RowsSkeleton}
-use Rattle.ob_base.specs.Indexes.{by_shape}
-use Rattle.ob_base.specs.Stored.{heading_at, headings_of}
 use Rattle.ob_script.specs.Tables.{moved, moved_to, tables_after}
-use Rattle.ob_sql.specs.declared.stmt.Stmt.{Stmt}
 use Rattle.ob_sql.specs.declared.stmt.Stmt.TheVariants.{Create, Insert, Update, Delete, Drop as DropTable, SelectRows as RowsStmt, SelectTotals as TotalsStmt}
-use Rattle.ob_sql.specs.Skeleton.{skeleton}
 use Rattle.ob_mean.specs.Keyed.{keyed_name, one_table}
-use Rattle.ob_mean.specs.Refusals.{is_index, is_indexed}
-use Rattle.ob_mean.specs.Replay.{drawn_by, has_index, is_access}
-use Rattle.ob_tables.specs.Engines.{IsAt}
+use Rattle.ob_mean.specs.Refusals.{is_indexed}
 use Rattle.ob_tables.proofs.FoundLemmas.{heading_found}
 use Rattle.ob_tables.proofs.TableLemmas.{AreNamed, named}
 
 -- ---- whether a statement accesses an index
 -- by the table whose rows it reads or changes by a key
 pub access_is : (p : Public) (name : List ℕ) (stmt : Stmt) → keyed_name stmt ≡ Some name → is_access p (skeleton stmt) ≡ has_index p name
-access_is p name (Create table columns capacity shape) is = absurd (cc is)
 access_is p name (Insert table columns values) is = let same : table ≡ name = cc is in ap (has_index p) same
 access_is p name (Update table sets cond) is = let same : table ≡ name = cc is in ap (has_index p) same
 access_is p name (Delete table cond) is = let same : table ≡ name = cc is in ap (has_index p) same
-access_is p name (DropTable table) is = absurd (cc is)
 access_is p name (RowsStmt q) is = of q.source is
   where
     of : (source : Source) → one_table source ≡ Some name → is_access p (RowsSkeleton source q.list) ≡ has_index p name
     of (OneTable n) is = let same : n ≡ name = cc is in ap (has_index p) same
     of (Join a b on equals) is = absurd (cc is)
-access_is p name (TotalsStmt q) is = absurd (cc is)
+access_is p name other is = absurd (cc is)
 
 -- without one it accesses none
 pub access_none : (p : Public) (stmt : Stmt) → keyed_name stmt ≡ None → is_access p (skeleton stmt) ≡ false
-access_none p (Create table columns capacity shape) is = refl
 access_none p (Insert table columns values) is = absurd (cc is)
 access_none p (Update table sets cond) is = absurd (cc is)
 access_none p (Delete table cond) is = absurd (cc is)
-access_none p (DropTable table) is = refl
 access_none p (RowsStmt q) is = of q.source is
   where
     of : (source : Source) → one_table source ≡ None → is_access p (RowsSkeleton source q.list) ≡ false
     of (OneTable n) is = absurd (cc is)
     of (Join a b on equals) is = refl
-access_none p (TotalsStmt q) is = refl
+access_none p other is = refl
 
 -- no table has the name
 pub no_index_named : (name : List ℕ) (ts : List Table) → ((i : ℕ) (t : Table) → IsAt name i t ts → ⊥) → is_index (headings_of ts) name ≡ false
@@ -90,26 +75,22 @@ module _ (p : Public) (i : ℕ) (t : Table) (name : List ℕ) (names : AreNamed 
   has_one = ap (λ (o : Option Heading). option_map_or (λ (h : Heading). is_indexed h.shape) o false) (heading_found name p.tables i t names at of_name) ∙ ap is_indexed indexed
 
   pub tables_stay : (stmt : Stmt) → keyed_name stmt ≡ Some name → p.tables ≡ tables_after p (skeleton stmt)
-  tables_stay (Create table columns capacity shape) is = absurd (cc is)
   tables_stay (Insert table columns values) is = let same : table ≡ name = cc is in sym (ap (λ (n : List ℕ). moved n p.next_region p.tables) same ∙ stays p.next_region)
   tables_stay (Update table sets cond) is = let same : table ≡ name = cc is in sym (ap (λ (n : List ℕ). moved n p.next_region p.tables) same ∙ stays p.next_region)
   tables_stay (Delete table cond) is = let same : table ≡ name = cc is in sym (ap (λ (n : List ℕ). moved n p.next_region p.tables) same ∙ stays p.next_region)
-  tables_stay (DropTable table) is = absurd (cc is)
   tables_stay (RowsStmt q) is = refl
-  tables_stay (TotalsStmt q) is = absurd (cc is)
+  tables_stay other is = absurd (cc is)
 
   -- it accesses an index, and draws one number
   pub access_by : (stmt : Stmt) → keyed_name stmt ≡ Some name → is_access p (skeleton stmt) ≡ true
   access_by stmt is = access_is p name stmt is ∙ has_one
 
   pub drew_one : (stmt : Stmt) → keyed_name stmt ≡ Some name → drawn_by p (skeleton stmt) ≡ 1
-  drew_one (Create table columns capacity shape) is = absurd (cc is)
   drew_one (Insert table columns values) is = ap (λ (b : Bool). if b then 1 else 0) (access_by (Insert table columns values) is)
   drew_one (Update table sets cond) is = ap (λ (b : Bool). if b then 1 else 0) (access_by (Update table sets cond) is)
   drew_one (Delete table cond) is = ap (λ (b : Bool). if b then 1 else 0) (access_by (Delete table cond) is)
-  drew_one (DropTable table) is = absurd (cc is)
   drew_one (RowsStmt q) is = ap (λ (b : Bool). if b then 1 else 0) (access_by (RowsStmt q) is)
-  drew_one (TotalsStmt q) is = absurd (cc is)
+  drew_one other is = absurd (cc is)
 
 -- the place of the draws behind it
 pub next_place : (place drawn n : ℕ) → place ≡ drawn % 2 ^ 67 → (place + n) % 2 ^ 67 ≡ (drawn + n) % 2 ^ 67

@@ -1,48 +1,18 @@
 -- What a statement on an index means, beside its access in the engine.
-use Rattle.std.proofs.Common.{◌≡◌, ◌-◌, ℕ, Bool, IsTrue, List, [], ◌++◌, length, None, Ok, Result, Global, MatchResult, sym, ◌∙◌, ap, subst, append_assoc}
-use Rattle.std.specs.Prelude.{slice_set}
-use Rattle.std.specs.declared.vec.Vec.{Vec}
-use Rattle.ob_base.specs.declared.access.Access.{Access}
-use Rattle.ob_base.specs.declared.schema.Heading.{Heading}
+use Rattle.ob_tables.proofs.Words.{Access, access_script, Agrees, ap, append_assoc, AreDraws, AreHeld, Bool, changed_at, count_of, draw_at, DrawPlace, Draws, Engine, Global, Got, got_in, got_outcome, Heading, headings, headings_of, HoldsTable, Index, index_of, IsAccessed, IsDone, IsHonest, IsTrue, Keyed, length, Lie, Lies, List, MatchResult, None, none, Ok, OramErr, Outcome, ReadsTrue, refusal_now, Result, RevState, RoomState, seen, seen_cut, seen_whole, settle, skeleton, slice_set, Stmt, StoreState, subst, sym, Tables, Vault, Vec, went_rests, World, world_of, ℕ, [], ◌++◌, ◌-◌, ◌∙◌, ◌≡◌}
 use Rattle.ob_base.specs.declared.schema.Shape.{Shape}
 use Rattle.ob_base.specs.declared.schema.Table.{Table}
-use Rattle.ob_base.specs.Stored.{changed_at, headings, headings_of}
-use Rattle.ob_room.specs.RoomState.{RoomState}
-use Rattle.ob_store.specs.State.{Lie, StoreState}
 use Rattle.ob_store.specs.Calls.{ChangesNothing}
-use Rattle.ob_vault.specs.State.{RevState, World}
-use Rattle.ob_vault.specs.declared.vault.Vault.{Vault}
 use Rattle.ob_vault.specs.Places.{at}
-use Rattle.ob_vault.specs.Calls.{none}
 use Rattle.ob_vault.specs.Tied.{ReadsIn}
-use Rattle.ob_vault.specs.Words.{IsHonest}
-use Rattle.ob_vault.proofs.WordLemmas.{went_rests}
 use Rattle.ob_vault.proofs.WorldSteps.{reads_on}
-use Rattle.ob_oram.specs.declared.fault.OramErr.{OramErr}
-use Rattle.ob_oram.specs.declared.index.Index.{Index}
-use Rattle.ob_oram.specs.declared.op.Got.{Got}
-use Rattle.ob_oram.specs.Indexes.{Lies}
-use Rattle.ob_oram.specs.Ops.{got_in}
-use Rattle.ob_oram.specs.Scripts.{access_script}
 use Rattle.ob_oram.proofs.Lasting.{lies_kept}
-use Rattle.ob_seal.specs.Draws.{DrawPlace, draw_at}
-use Rattle.ob_sql.specs.Skeleton.{skeleton}
-use Rattle.ob_sql.specs.declared.stmt.Stmt.{Stmt}
-use Rattle.ob_mean.specs.Settle.{settle}
-use Rattle.ob_mean.specs.Verdict.{Draws, Tables, index_of, next_draw, seen}
-use Rattle.ob_verdict.specs.Outcomes.{refusal_now}
-use Rattle.ob_verdict.specs.declared.outcome.Outcome.{Outcome}
+use Rattle.ob_mean.specs.Verdict.{next_draw}
 use Rattle.ob_verdict.proofs.InPlaceProof.{keeps_in_place}
-use Rattle.ob_keyed.specs.declared.keyed.Keyed.{Keyed}
-use Rattle.ob_keyed.specs.Answering.{got_outcome}
 use Rattle.ob_keyed.specs.Meant.{MeansKeyed, StopsKeyed, ToldKeyed}
-use Rattle.ob_keyed.specs.Seeing.{seen_cut, seen_whole}
 use Rattle.ob_keyed.specs.Serving.{ServesKeyed}
 use Rattle.ob_keyed.proofs.Told.{keyed_means}
-use Rattle.ob_tables.specs.declared.engine.Engine.{Engine}
-use Rattle.ob_tables.specs.Agreeing.{Agrees, AreDraws, count_of, world_of}
-use Rattle.ob_tables.specs.Indexed.{IsAccessed, IsDone}
-use Rattle.ob_tables.specs.Telling.{AreHeld, HoldsTable, ReadsTrue, Represents, SeenCut, Told, meant_script}
+use Rattle.ob_tables.specs.Telling.{Represents, SeenCut, Told, meant_script}
 use Rattle.ob_tables.proofs.HeldLemmas.{Stood, held_headings, stood_at}
 use Rattle.ob_tables.proofs.IndexHeld.{held_accessed}
 use Rattle.ob_tables.proofs.IndexRuns.{all, asked_ok, draw_is, got_answered, of_x, on, served}

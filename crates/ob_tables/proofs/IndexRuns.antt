@@ -1,71 +1,33 @@
 -- What an access of an index does, whatever the store answers.
-use Rattle.std.proofs.Common.{◌≡◌, ◌⊎◌, inl, inr, ◌≤◌, ◌+◌, ◌-◌, ◌%◌, ◌^◌, ℕ, Bool, true, false, List, [], ◌++◌, length, Option, Some, None, Ok, Err, Result, OnOk, Global, refl, sym, ◌∙◌, ap, subst, arith}
-use Rattle.std.specs.Prelude.{nat_lt, slice_get, slice_index_or, slice_set}
-use Rattle.std.specs.declared.vec.Vec.{Vec}
-use Rattle.ob_base.specs.declared.access.Access.{Access}
-use Rattle.ob_base.specs.declared.seen.End.{End}
-use Rattle.ob_base.specs.declared.seen.End.TheVariants.{Whole, Cut}
-use Rattle.ob_base.specs.declared.seen.Seen.{Seen}
+use Rattle.ob_tables.proofs.Words.{Access, access_script, Agrees, answer_of, ap, AreDraws, AreTables, arith, Bool, Calm, count_of, Cut, draw_at, draw_seed_of, drawn_by, DrawPlace, Draws, draws_taken, End, Engine, Err, false, free_after, Global, Got, got_outcome, held_if, Index, index_kept, inl, inr, is_access, is_fault, is_stop, IsAccessed, IsDone, IsFree, IsIndex, IsIndexOfTable, key_of, Keyed, left_region, length, List, nat_lt, None, none, Ok, Opens, OpErr, Option, OramErr, others_of, Outcome, RanStatement, refl, refusal_now, Result, RevState, RoomState, run_script, RunCause, RunStop, Seen, seen_cut, seen_whole, skeleton, slice_get, slice_index_or, slice_set, Some, Stmt, stop_of, stored_region, StoreState, subst, sym, true, two, Vault, Vec, Went, went_join, went_rests, Whole, World, world_of, ℕ, [], ◌%◌, ◌++◌, ◌+◌, ◌-◌, ◌^◌, ◌∙◌, ◌≡◌, ◌≤◌, ◌⊎◌}
+use Rattle.std.proofs.Common.{OnOk}
 use Rattle.ob_base.specs.declared.schema.Table.{Table}
 use Rattle.ob_base.specs.Indexes.{leaf_of_draw, rows_open}
-use Rattle.ob_base.specs.Stored.{stored_region}
-use Rattle.ob_room.specs.RoomState.{RoomState}
-use Rattle.ob_store.specs.State.{StoreState}
 use Rattle.ob_store.specs.Calls.{ChangesNothing}
-use Rattle.ob_vault.specs.State.{RevState, World}
-use Rattle.ob_vault.specs.declared.vault.Vault.{Vault}
 use Rattle.ob_vault.specs.Places.{at}
-use Rattle.ob_vault.specs.Calls.{Went, none, two}
-use Rattle.ob_vault.specs.Tied.{Calm}
-use Rattle.ob_vault.proofs.Runs.{lasts_trans, went_join}
-use Rattle.ob_vault.proofs.WordLemmas.{went_rests}
-use Rattle.ob_flat.specs.declared.fault.OpErr.{OpErr}
+use Rattle.ob_vault.proofs.Runs.{lasts_trans}
 use Rattle.ob_flat.specs.declared.fault.OpErr.TheVariants as OpErrs
-use Rattle.ob_oram.specs.declared.fault.OramErr.{OramErr}
 use Rattle.ob_oram.specs.declared.fault.OramErr.TheVariants as OramErrs
-use Rattle.ob_oram.specs.declared.index.Index.{Index}
-use Rattle.ob_oram.specs.declared.op.Got.{Got}
-use Rattle.ob_oram.specs.Indexes.{IsIndex, leaves_of}
-use Rattle.ob_oram.specs.Scripts.{access_script}
+use Rattle.ob_oram.specs.Indexes.{leaves_of}
 use Rattle.ob_oram.specs.Short.{AccessShort, ShortCause}
-use Rattle.ob_oram.proofs.Lasting.{index_kept}
 use Rattle.ob_path.specs.Access as Tree
 use Rattle.ob_row.specs.Rows.{Row}
-use Rattle.ob_seal.specs.Draws.{DrawPlace, draw_at}
-use Rattle.ob_seal.specs.KeySet.{draw_seed_of}
 use Rattle.ob_seal.proofs.Drawn.{draws_wrap}
-use Rattle.rand_chacha.specs.ChaCha.{key_of}
 use Rattle.ob_script.proofs.SavedParts.{run_is}
-use Rattle.ob_script.specs.Saved.{left_region, left_then, run_script}
+use Rattle.ob_script.specs.Saved.{left_then}
 use Rattle.ob_script.specs.Script.{script}
 use Rattle.ob_script.specs.Tables.{tables_then}
-use Rattle.ob_sql.specs.declared.stmt.Stmt.{Stmt}
 use Rattle.ob_sql.specs.declared.stmt.Stmt.TheVariants.{Create, Insert, Update, Delete, Drop as DropTable, SelectRows as RowsStmt, SelectTotals as TotalsStmt}
-use Rattle.ob_sql.specs.Skeleton.{skeleton}
 use Rattle.ob_mean.specs.Lawful.{height_at}
-use Rattle.ob_mean.specs.Replay.{drawn_by, draws_taken, held_if, is_access}
-use Rattle.ob_mean.specs.Verdict.{Draws, next_draw}
-use Rattle.ob_verdict.specs.declared.outcome.Outcome.{Outcome}
-use Rattle.ob_verdict.specs.Outcomes.{refusal_now}
-use Rattle.ob_keyed.specs.declared.keyed.Keyed.{Keyed}
-use Rattle.ob_keyed.specs.Answering.{got_outcome}
+use Rattle.ob_mean.specs.Verdict.{next_draw}
 use Rattle.ob_keyed.specs.Asking.{IsKeyed}
-use Rattle.ob_keyed.specs.Seeing.{RanAs, seen_cut, seen_whole}
+use Rattle.ob_keyed.specs.Seeing.{RanAs}
 use Rattle.ob_keyed.specs.Serving.{Asked, ServesKeyed}
 use Rattle.ob_keyed.proofs.Ran.{keyed_cut, keyed_ran}
 use Rattle.ob_keyed.proofs.Seen.{height_at_is}
 use Rattle.ob_keyed.proofs.Served.{serves}
-use Rattle.ob_tables.specs.declared.engine.Engine.{Engine}
-use Rattle.ob_tables.specs.declared.stop.RunStop.{RunStop}
 use Rattle.ob_tables.specs.declared.stop.RunStop.TheVariants as Stops
-use Rattle.ob_select.specs.Settings.{IsFree}
-use Rattle.ob_select.specs.Opening.{Opens}
-use Rattle.ob_select.proofs.RoomLemmas.{free_after}
-use Rattle.ob_tables.specs.Agreeing.{Agrees, AreDraws, count_of, world_of}
-use Rattle.ob_tables.specs.Engines.{AreTables, IsIndexOfTable, others_of}
-use Rattle.ob_tables.specs.Indexed.{IsAccessed, IsDone}
 use Rattle.ob_tables.specs.Leaves.{MovesLeaves, ReadsKey}
-use Rattle.ob_tables.specs.Running.{RanStatement, RunCause, answer_of, is_fault, is_stop, stop_of}
 use Rattle.ob_tables.proofs.IndexKinds.{access_by}
 use Rattle.ob_tables.proofs.IndexTables.{this, that, set_at, tables_accessed}
 use Rattle.ob_tables.proofs.RunLemmas.{IsAnswered, MayHave, asks_none, engine_left, leaves_none, left_on, none_by, of_other, opens_some, unsaved}
@@ -73,31 +35,23 @@ use Rattle.ob_tables.proofs.TableLemmas.{no_entry, stored_found}
 
 -- what an access answers is no fault of the store, and none refuses before it
 pub got_answered : (stmt : Stmt) (got : Tree.Got Row) → IsAnswered (got_outcome stmt got)
-got_answered (Create table columns capacity shape) got = record { whole = λ n. refl; own = refl }
 got_answered (Insert table columns values) Tree.Absent = record { whole = λ n. refl; own = refl }
 got_answered (Insert table columns values) (Tree.Found row) = record { whole = λ n. refl; own = refl }
 got_answered (Insert table columns values) Tree.Done = record { whole = λ n. refl; own = refl }
 got_answered (Insert table columns values) Tree.Duplicate = record { whole = λ n. refl; own = refl }
 got_answered (Insert table columns values) Tree.OutOfRange = record { whole = λ n. refl; own = refl }
-got_answered (Update table sets cond) got = record { whole = λ n. refl; own = refl }
-got_answered (Delete table cond) got = record { whole = λ n. refl; own = refl }
-got_answered (DropTable table) got = record { whole = λ n. refl; own = refl }
-got_answered (RowsStmt q) got = record { whole = λ n. refl; own = refl }
-got_answered (TotalsStmt q) got = record { whole = λ n. refl; own = refl }
+got_answered other got = record { whole = λ n. refl; own = refl }
 
 pub short_cause : (e : OramErr) (a b : World) → ShortCause e a b → RunCause (Err (stop_of e)) a b
 short_cause OramErrs.Failed a b cause = cause
-short_cause (OramErrs.Tampered q x) a b cause = cause
-short_cause OramErrs.StashFull a b cause = cause
+short_cause other a b cause = cause
 
 -- of a store that was only given room before
 cause_after : (stop : RunStop) (a b c : World) → b.store.faults ≡ a.store.faults → (Calm a → Calm b) → RunCause (Err stop) b c → RunCause (Err stop) a c
 cause_after (Stops.Tampered q x) a b c faults calm cause = (cause.0 ∙ faults, cause.1, λ was. cause.2 (calm was))
-cause_after Stops.SinkFault a b c faults calm cause = (cause.0 ∙ faults, λ was. cause.1 (calm was))
-cause_after Stops.NoMemory a b c faults calm cause = (cause.0 ∙ faults, λ was. cause.1 (calm was))
 cause_after Stops.StoreFault a b c faults calm cause = (let rise = cause.0 in omega (arith, rise, faults), λ was. cause.1 (calm was))
-cause_after Stops.StashFull a b c faults calm cause = (cause.0 ∙ faults, λ was. cause.1 (calm was))
 cause_after Stops.KeeperFault a b c faults calm cause = absurd cause
+cause_after other a b c faults calm cause = (cause.0 ∙ faults, λ was. cause.1 (calm was))
 
 module _ {R : Type 0} (state : R → RevState) (stmt : Stmt) (old : Engine R) (s s1 : StoreState) (v : Vault R) (room : RoomState) (t : StoreState) (k draw : ℕ) (keyed : Keyed) (indexes : Vec Index Global) (draws : DrawPlace)
     (agrees : Agrees state old s) (rests : ChangesNothing s s1) (now : refusal_now old.public (count_of old s) stmt ≡ None)

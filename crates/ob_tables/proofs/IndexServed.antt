@@ -1,64 +1,24 @@
 -- A statement on an index is served by its access.
-use Rattle.std.proofs.Common.{◌≡◌, ◌-◌, ◌+◌, ◌%◌, ◌^◌, ℕ, Bool, true, false, IsTrue, List, [], None, Ok, Err, Result, Global, length, refl, sym, ◌∙◌, ap, subst, append-nil}
-use Rattle.std.specs.declared.vec.Vec.{Vec}
-use Rattle.ob_base.specs.declared.seen.End.TheVariants.{Whole}
-use Rattle.ob_base.specs.Events.{Event}
-use Rattle.ob_room.specs.RoomState.{RoomState}
-use Rattle.ob_store.specs.State.{StoreState}
+use Rattle.ob_tables.proofs.Words.{access_script, Agrees, answer_labels, ap, append-nil, AreDraws, Bool, count_of, draw_at, drawn_by, DrawPlace, Draws, draws_taken, Engine, Err, Event, false, Global, Got, got_in, got_outcome, Held, Index, IsAccessed, IsDone, IsHonest, IsTrue, KeepsSealed, Keyed, later_rests, Lawful, length, List, MatchResult, Means, None, Ok, OramErr, Outcome, RanStatement, ReadsTrue, refl, refusal_now, Result, RevState, RoomState, RunStop, Seals, seals_join, seals_rests, seen_cut, seen_whole, Serves, skeleton, Stmt, stop_of, Stored, StoreState, subst, sym, Tables, true, Vault, Vec, verdict, Whole, World, world_of, ℕ, [], ◌%◌, ◌+◌, ◌-◌, ◌^◌, ◌∙◌, ◌≡◌}
 use Rattle.ob_store.specs.Calls.{ChangesNothing}
-use Rattle.ob_store.proofs.Steps.{later_rests}
-use Rattle.ob_vault.specs.State.{RevState, World}
-use Rattle.ob_vault.specs.declared.vault.Vault.{Vault}
 use Rattle.ob_vault.specs.Places.{at}
-use Rattle.ob_vault.specs.Calls.{Seals}
-use Rattle.ob_vault.proofs.Runs.{seals_join}
-use Rattle.ob_vault.proofs.WordLemmas.{seals_rests}
-use Rattle.ob_oram.specs.declared.index.Index.{Index}
-use Rattle.ob_oram.specs.declared.op.Got.{Got}
-use Rattle.ob_oram.specs.Ops.{got_in}
-use Rattle.ob_oram.specs.Scripts.{access_script}
-use Rattle.ob_seal.specs.Draws.{DrawPlace, draw_at}
-use Rattle.ob_sql.specs.declared.stmt.Stmt.{Stmt}
-use Rattle.ob_sql.specs.Skeleton.{skeleton}
-use Rattle.ob_mean.specs.Lawful.{Lawful}
-use Rattle.ob_mean.specs.Replay.{drawn_by, draws_taken}
-use Rattle.ob_mean.specs.Verdict.{Draws, verdict}
-use Rattle.ob_verdict.specs.declared.outcome.Outcome.{Outcome}
-use Rattle.ob_verdict.specs.Outcomes.{refusal_now}
-use Rattle.ob_keyed.specs.declared.keyed.Keyed.{Keyed}
-use Rattle.ob_keyed.specs.Answering.{got_outcome}
-use Rattle.ob_keyed.specs.Seeing.{seen_whole}
-use Rattle.ob_tables.specs.declared.engine.Engine.{Engine}
-use Rattle.ob_tables.specs.Agreeing.{Agrees, AreDraws, count_of, world_of}
-use Rattle.ob_tables.specs.Indexed.{IsAccessed, IsDone}
-use Rattle.ob_tables.specs.declared.stop.RunStop.{RunStop}
 use Rattle.ob_tables.specs.declared.stop.RunStop.TheVariants as Stops
-use Rattle.ob_tables.specs.Running.{RanStatement, SinkStops}
-use Rattle.ob_tables.specs.Serving.{Answered, Means, Serves, StopsEmission}
-use Rattle.ob_tables.specs.Telling.{KeepsSealed, answer_labels}
+use Rattle.ob_tables.specs.Running.{SinkStops}
+use Rattle.ob_tables.specs.Serving.{Answered, StopsEmission}
+use Rattle.ob_tables.specs.Telling.{IsNotTampered, is_refused}
 use Rattle.ob_tables.proofs.BegunLemmas.{run_reads}
 use Rattle.ob_tables.proofs.IndexKinds.{drew_one, next_place, tables_stay}
-use Rattle.ob_tables.proofs.IndexMeans.{begun_access, told_access, told_keyed}
-use Rattle.ob_tables.proofs.IndexRuns.{all, got_answered, ran_as, ran_whole_access, served}
+use Rattle.ob_tables.proofs.IndexMeans.{begun_access, told_access, told_keyed, lies_before, seen_access_cut, stood}
+use Rattle.ob_tables.proofs.IndexRuns.{all, got_answered, ran_as, ran_whole_access, served, from_old, on, ran_as_stopped, ran_stopped_access, short}
 use Rattle.ob_tables.proofs.RunLemmas.{engine_left}
 use Rattle.ob_tables.proofs.ToldLemmas.{refused_none}
-use Rattle.std.specs.Prelude.{MatchResult}
-use Rattle.ob_base.specs.Stored.{Stored}
-use Rattle.ob_vault.specs.Words.{IsHonest}
-use Rattle.ob_oram.specs.declared.fault.OramErr.{OramErr}
 use Rattle.ob_oram.specs.declared.fault.OramErr.TheVariants as OramErrs
 use Rattle.ob_mean.specs.Keyed.{Ask}
-use Rattle.ob_mean.specs.Verdict.{Held, Tables}
 use Rattle.ob_keyed.specs.Meaning.{AnswersAsk, StopsAsk}
-use Rattle.ob_keyed.specs.Seeing.{seen_cut}
 use Rattle.ob_keyed.proofs.Told.{finds_access}
-use Rattle.ob_tables.specs.Running.{stop_of}
-use Rattle.ob_tables.specs.Telling.{IsNotTampered, ReadsTrue, is_refused}
 use Rattle.ob_tables.proofs.IndexFound.{partly_none}
 use Rattle.ob_tables.proofs.IndexStops.{fills, stops_within}
 use Rattle.ob_tables.proofs.HeldLemmas.{held_headings}
-use Rattle.ob_tables.proofs.IndexMeans.{lies_before, seen_access_cut, stood}
-use Rattle.ob_tables.proofs.IndexRuns.{from_old, on, ran_as_stopped, ran_stopped_access, short}
 
 -- an access stops for neither want of memory nor an emitter, before anything is emitted
 abbrev pub IsOfOthers : RunStop → Type 0
@@ -68,8 +28,7 @@ IsOfOthers _ = ⊥
 
 none_other : (e : OramErr) → IsOfOthers (stop_of e) → ⊥
 none_other OramErrs.Failed other = other
-none_other (OramErrs.Tampered q x) other = other
-none_other OramErrs.StashFull other = other
+none_other another other = other
 
 of_access : {P : Type 0} (e : OramErr) (stop : RunStop) → IsOfOthers stop → ◌≡◌ {A = Result Outcome RunStop} (Err (stop_of e)) (Err stop) → P
 of_access e stop other is =
@@ -83,8 +42,7 @@ stops_silent grew cut OramErrs.StashFull out starts = (starts, refl)
 
 no_sink : (e : OramErr) (n : ℕ) → SinkStops (Err (stop_of e)) n n
 no_sink OramErrs.Failed n = refl
-no_sink (OramErrs.Tampered q x) n = refl
-no_sink OramErrs.StashFull n = refl
+no_sink other n = refl
 
 module _ {R : Type 0} (state : R → RevState) (stmt : Stmt) (old : Engine R) (s s1 : StoreState) (v : Vault R) (room : RoomState) (t : StoreState) (k draw : ℕ) (keyed : Keyed) (indexes : Vec Index Global) (draws : DrawPlace)
     (agrees : Agrees state old s) (rests : ChangesNothing s s1) (now : refusal_now old.public (count_of old s) stmt ≡ None)

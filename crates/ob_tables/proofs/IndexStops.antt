@@ -1,41 +1,17 @@
 -- A statement on an index that was stopped, and what that means.
-use Rattle.std.proofs.Common.{◌≡◌, ◌≤◌, ◌<◌, ◌-◌, ◌+◌, ℕ, Bool, true, nat_lt, IsTrue, length, Option, Some, None, Err, Result, Global, MatchResult, refl, sym, ◌∙◌, ap, subst, arith}
-use Rattle.std.specs.Option.{option_map_or}
-use Rattle.std.specs.declared.vec.Vec.{Vec}
-use Rattle.std.proofs.lemmas.Bool.Decides.{nat_tests}
-use Rattle.ob_base.specs.declared.schema.Heading.{Heading}
-use Rattle.ob_base.specs.Indexes.{height_of, path_blocks}
+use Rattle.ob_tables.proofs.Words.{Agrees, ap, AreDraws, arith, Bool, Calm, count_of, draw_at, DrawPlace, Draws, Engine, Err, Global, Got, Heading, height_of, held_if, Index, IsAccessed, IsDone, IsHonest, IsTrue, Keyed, length, MatchResult, nat_lt, nat_tests, None, none, Option, option_map_or, OramErr, refl, refusal_now, Result, RevState, RoomState, RunCause, seen_cut, Some, Stmt, stop_of, StoreState, subst, sym, Tables, true, Vault, Vec, went_rests, World, world_of, ℕ, ◌+◌, ◌-◌, ◌<◌, ◌∙◌, ◌≡◌, ◌≤◌}
+use Rattle.ob_base.specs.Indexes.{path_blocks}
 use Rattle.ob_base.proofs.IndexLemmas.{height_same}
-use Rattle.ob_room.specs.RoomState.{RoomState}
-use Rattle.ob_store.specs.State.{StoreState}
 use Rattle.ob_store.specs.Calls.{ChangesNothing}
-use Rattle.ob_vault.specs.State.{RevState, World}
-use Rattle.ob_vault.specs.declared.vault.Vault.{Vault}
 use Rattle.ob_vault.specs.Places.{at}
-use Rattle.ob_vault.specs.Calls.{none}
-use Rattle.ob_vault.specs.Tied.{Calm}
-use Rattle.ob_vault.specs.Words.{IsHonest}
-use Rattle.ob_vault.proofs.WordLemmas.{went_rests}
-use Rattle.ob_oram.specs.declared.fault.OramErr.{OramErr}
 use Rattle.ob_oram.specs.declared.fault.OramErr.TheVariants as OramErrs
-use Rattle.ob_oram.specs.declared.index.Index.{Index}
-use Rattle.ob_oram.specs.declared.op.Got.{Got}
 use Rattle.ob_oram.specs.Short.{AsksReads}
-use Rattle.ob_seal.specs.Draws.{DrawPlace, draw_at}
-use Rattle.ob_sql.specs.declared.stmt.Stmt.{Stmt}
-use Rattle.ob_mean.specs.Replay.{held_if}
-use Rattle.ob_mean.specs.Verdict.{Accessed, Draws, Tables, is_full, next_draw}
-use Rattle.ob_verdict.specs.Outcomes.{refusal_now}
-use Rattle.ob_keyed.specs.declared.keyed.Keyed.{Keyed}
+use Rattle.ob_mean.specs.Verdict.{Accessed, is_full, next_draw}
 use Rattle.ob_keyed.specs.Meant.{StopsKeyed, ToldKeyed}
-use Rattle.ob_keyed.specs.Seeing.{seen_cut}
 use Rattle.ob_keyed.specs.Serving.{Overfills}
 use Rattle.ob_keyed.proofs.Told.{finds_access}
-use Rattle.ob_tables.specs.declared.engine.Engine.{Engine}
 use Rattle.ob_tables.specs.declared.stop.RunStop.TheVariants as Stops
-use Rattle.ob_tables.specs.Agreeing.{Agrees, AreDraws, count_of, world_of}
-use Rattle.ob_tables.specs.Indexed.{FillsStash, IsAccessed, IsDone}
-use Rattle.ob_tables.specs.Running.{RunCause, stop_of}
+use Rattle.ob_tables.specs.Indexed.{FillsStash}
 use Rattle.ob_tables.specs.Telling.{ReadsTrueUntil, Represents, StopsFull, access_reads}
 use Rattle.ob_tables.proofs.EmitLemmas.{unfit_none}
 use Rattle.ob_tables.proofs.HeldLemmas.{held_headings}

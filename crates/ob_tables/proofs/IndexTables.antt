@@ -1,20 +1,9 @@
 -- The tables of an engine, after an access of one of its indexes, and after one is made or dropped.
-use Rattle.std.proofs.Common.{◌≡◌, ◌⊎◌, inl, inr, ◌<◌, ◌+◌, ℕ, zero, suc, List, [], ◌∷◌, ◌++◌, length, Option, Some, refl, sym, ◌∙◌, ap, subst, arith}
-use Rattle.std.specs.Prelude.{slice_get, slice_set}
-use Rattle.std.specs.List.{remove}
-use Rattle.std.proofs.lemmas.Bool.{cases_eq}
+use Rattle.ob_tables.proofs.Words.{ap, AreTables, arith, cases_eq, Index, index_kept, inl, inr, IsBeside, IsIndex, IsIndexIn, IsIndexOfTable, IsStashOf, IsTable, IsTableRegion, IsTreeOf, Lasts, length, List, Lives, Option, others_of, Ready, refl, Region, remove, Round, slice_get, slice_set, Some, subst, suc, sym, table_region, two, World, zero, ℕ, [], ◌++◌, ◌+◌, ◌<◌, ◌∙◌, ◌∷◌, ◌≡◌, ◌⊎◌}
 use Rattle.ob_base.specs.declared.schema.Table.{Table}
-use Rattle.ob_vault.specs.declared.region.Region.{Region}
-use Rattle.ob_vault.specs.State.{World}
-use Rattle.ob_vault.specs.Tied.{Lives, Ready}
-use Rattle.ob_vault.specs.Calls.{Lasts, two}
-use Rattle.ob_oram.specs.declared.index.Index.{Index}
-use Rattle.ob_oram.specs.Indexes.{IsIndex, stash_of, tree_of}
-use Rattle.ob_flat.specs.Flats.{table_region}
-use Rattle.ob_vault.specs.declared.region.Order.TheVariants.{Round, Any}
-use Rattle.ob_oram.proofs.Lasting.{index_kept}
+use Rattle.ob_oram.specs.Indexes.{stash_of, tree_of}
+use Rattle.ob_vault.specs.declared.region.Order.TheVariants.{Any}
 use Rattle.ob_reopen.proofs.Lists.{got_last}
-use Rattle.ob_tables.specs.Engines.{AreTables, IsBeside, IsIndexIn, IsIndexOfTable, IsStashOf, IsTable, IsTableRegion, IsTreeOf, others_of}
 use Rattle.ob_tables.proofs.DropLemmas.{left_at, origin, origin_off, same_origin, tables_without}
 use Rattle.ob_tables.proofs.TableLemmas.{beside_kept, get_front, get_more, region_below, table_kept, tables_more}
 

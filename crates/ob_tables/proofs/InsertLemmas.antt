@@ -1,32 +1,21 @@
 -- What an INSERT makes of a table.
-use Rattle.std.proofs.Common.{◌≡◌, ◌==◌, ℕ, Bool, true, false, if◌then◌else◌, List, [], ◌++◌, length, Some, None, Option, refl, sym, ◌∙◌, ap}
-use Rattle.std.specs.Option.{option_map, option_map_or, option_or}
-use Rattle.ob_base.specs.declared.config.Public.{Public}
-use Rattle.ob_base.specs.declared.refusal.Refusal.{Refusal}
+use Rattle.ob_tables.proofs.Words.{accessed, ap, Bool, changed_at, Columns, columns_at, copy_part, count_part, Done, Draws, early_refusal, false, followed, HasNoRows, Heading, heading-stored, headings, Held, if◌then◌else◌, in_slots, insert_part, inserted_as, is_late, length, limits_of, List, None, Option, option_map, option_map_or, outcome_of, Public, refl, Refusal, refusal, refused_late, rows, settle, settled, Some, Stmt, Stored, stored_at, sym, Tables, true, verdict, ℕ, [], ◌++◌, ◌==◌, ◌∙◌, ◌≡◌}
+use Rattle.std.specs.Option.{option_or}
 use Rattle.ob_base.specs.declared.refusal.Refusal.TheVariants as R
 use Rattle.ob_base.specs.declared.schema.Shape.TheVariants.{Flat}
-use Rattle.ob_base.specs.declared.schema.Heading.{Heading}
-use Rattle.ob_base.specs.Schemas.{Columns, key_place}
-use Rattle.ob_base.specs.Stored.{Stored, headings, stored_at, changed_at}
-use Rattle.ob_script.specs.Parts.{count_part, copy_part, insert_part}
+use Rattle.ob_base.specs.Schemas.{key_place}
 use Rattle.ob_row.specs.Rows.{Row, has_key}
-use Rattle.ob_row.specs.Slots.{rows, fill_first}
+use Rattle.ob_row.specs.Slots.{fill_first}
 use Rattle.ob_mutate.specs.declared.inserting.Inserted.{Inserted as InsertedAs}
-use Rattle.ob_mutate.specs.declared.inserting.Inserted.TheVariants.{Done, Duplicate, Full}
+use Rattle.ob_mutate.specs.declared.inserting.Inserted.TheVariants.{Duplicate, Full}
 use Rattle.ob_mutate.specs.Inserting.{insert_answer, slots_after}
 use Rattle.ob_sql.specs.declared.stmt.Literal.{Literal}
-use Rattle.ob_sql.specs.declared.stmt.Stmt.{Stmt}
 use Rattle.ob_sql.specs.declared.stmt.Stmt.TheVariants.{Insert as InsertStmt}
 use Rattle.ob_mean.specs.declared.answer.Answer.TheVariants as A
-use Rattle.ob_names.specs.Names.{columns_at}
-use Rattle.ob_mean.specs.Refusals.{early_refusal, limits_of}
-use Rattle.ob_mean.specs.Step.{new_row, insert_refusal, answered, followed}
-use Rattle.ob_mean.specs.Settle.{settle, settled}
-use Rattle.ob_mean.proofs.VerdictLemmas.{flat_refusal, heading-stored, stored-database, refused_late}
-use Rattle.ob_mean.specs.Verdict.{Draws, Held, accessed, in_slots, Tables, is_late, refusal, verdict}
+use Rattle.ob_mean.specs.Step.{new_row, insert_refusal, answered}
+use Rattle.ob_mean.proofs.VerdictLemmas.{flat_refusal, stored-database}
 use Rattle.ob_verdict.specs.declared.outcome.Outcome.TheVariants.{Inserted}
-use Rattle.ob_tables.specs.Running.{HasNoRows, inserted_as}
-use Rattle.ob_verdict.specs.Outcomes.{done_of, outcome_of}
+use Rattle.ob_verdict.specs.Outcomes.{done_of}
 use Rattle.ob_tables.proofs.HeldLemmas.{changed_same}
 use Rattle.ob_tables.proofs.MutateLemmas.{Alters}
 use Rattle.ob_tables.proofs.PlainLemmas.{settle_is}
@@ -78,14 +67,12 @@ insert_meant p m tables name columns values x row answer unread early found size
 
 pub is_answered : (answer : InsertedAs) → IsAnswered (inserted_as answer)
 is_answered Done = record { whole = λ n. refl; own = refl }
-is_answered Duplicate = record { whole = λ n. refl; own = refl }
-is_answered Full = record { whole = λ n. refl; own = refl }
+is_answered other = record { whole = λ n. refl; own = refl }
 
 -- it emits nothing
 pub silent_inserted : (answer : InsertedAs) → HasNoRows (inserted_as answer)
 silent_inserted Done = tt
-silent_inserted Duplicate = tt
-silent_inserted Full = tt
+silent_inserted other = tt
 
 pub insert_alters : (p : Public) (m : ℕ) (name : List ℕ) (columns : Option (List (List ℕ))) (values : List Literal) (heading : Heading) (cs : Columns) (row : Row)
     → heading.shape ≡ Flat → cs ≡ heading.schema → row ≡ new_row heading.schema columns values

@@ -1,15 +1,13 @@
 -- The primary key of a new index.
-use Rattle.std.proofs.Common.{◌≡◌, ◌+◌, ◌≤◌, ◌<◌, ℕ, zero, suc, Bool, true, false, cond, List, [], ◌∷◌, length, Some, refl, sym, ◌∙◌, ap, arith}
-use Rattle.std.specs.Prelude.{◌&&◌, ◌||◌, nat_lt, sum_by}
-use Rattle.std.proofs.lemmas.Bool.Decides.{nat_tests}
+use Rattle.ob_tables.proofs.Words.{ap, arith, Bool, Column, Columns, columns_of, cond, false, length, List, nat_lt, nat_tests, refl, Some, suc, sym, true, zero, ℕ, [], ◌&&◌, ◌+◌, ◌<◌, ◌||◌, ◌∙◌, ◌∷◌, ◌≡◌, ◌≤◌}
+use Rattle.std.specs.Prelude.{sum_by}
 use Rattle.std.proofs.lemmas.List.Sums.{sum_by-cons}
-use Rattle.ob_base.specs.declared.schema.Column.{Column}
 use Rattle.ob_base.specs.declared.schema.Kind.TheVariants.{Int as IntKind}
 use Rattle.ob_base.specs.declared.skeleton.NewColumn.{NewColumn}
 use Rattle.ob_base.specs.declared.skeleton.NewKind.{NewKind}
 use Rattle.ob_base.specs.declared.skeleton.NewKind.TheVariants.{Int as NewInt, Varchar as NewVarchar}
 use Rattle.ob_base.specs.Lists.{first, places_from}
-use Rattle.ob_base.specs.Schemas.{Columns, columns_of, kind_of}
+use Rattle.ob_base.specs.Schemas.{kind_of}
 use Rattle.ob_mean.specs.Refusals.{has_int_key, is_int}
 use Rattle.ob_oram.specs.Keys.{IsIntKey}
 use Rattle.ob_row.specs.Spelling.{kind_at}

@@ -1,34 +1,20 @@
 -- What a store keeps of the tables that a closing lists, and what an engine holds once they are open.
-use Rattle.std.proofs.Common.{◌≡◌, ℕ, zero, suc, ◌+◌, ◌*◌, ◌<◌, ◌≤◌, Bool, List, [], ◌∷◌, length, map, Option, Some, refl, sym, ◌∙◌, ap, subst, arith}
-use Rattle.std.specs.Prelude.{IsTrue, slice_get}
-use Rattle.ob_base.specs.Numbers.{blocks_for}
+use Rattle.ob_tables.proofs.Words.{AcceptsClosings, ap, AreHeld, AreKept, arith, blocks_for, Bool, Closing, flat_of, Held, HoldsTable, Indexed, IsBounded, IsClosing, IsReopened, IsTrue, KeptRegion, KeySet, length, List, Listed, map, Option, refl, slice_get, Slots, Some, Stored, subst, suc, sym, Tables, World, zero, ℕ, [], ◌*◌, ◌+◌, ◌<◌, ◌∙◌, ◌∷◌, ◌≡◌, ◌≤◌}
 use Rattle.ob_blocks.specs.Blocks.{block_at}
 use Rattle.ob_blocks.proofs.Blocks.{all_block, all_up_to, length-block, length-up_to}
 use Rattle.ob_flat.specs.Flats.{Represents as FlatRepresents, whole_blocks}
 use Rattle.ob_flat.specs.Slots.{FitsSlot}
 use Rattle.ob_flat.proofs.Tables.{blocks_hold}
-use Rattle.ob_mean.specs.Verdict.{Held, Tables}
-use Rattle.ob_row.specs.Slots.{Slots}
-use Rattle.ob_seal.specs.KeySet.{KeySet}
 use Rattle.ob_seal.specs.Sealed.{sealed}
-use Rattle.ob_store.specs.State.{KeptRegion}
-use Rattle.ob_store.specs.Calls.{IsBounded}
-use Rattle.ob_vault.specs.State.{World}
 use Rattle.ob_vault.specs.Resuming.{KeptSealed}
 use Rattle.ob_vault.specs.Tied.{at_of}
-use Rattle.ob_reopen.specs.declared.closing.Closing.{Closing}
-use Rattle.ob_reopen.specs.declared.listed.Listed.{Listed}
 use Rattle.ob_reopen.specs.Limits.{blocks_of}
-use Rattle.ob_reopen.specs.Closings.{IsClosing, row_of}
-use Rattle.ob_reopen.specs.Openings.{IsReopened}
-use Rattle.ob_tables.specs.Engines.{flat_of}
-use Rattle.ob_reopen.specs.Resting.{AcceptsClosings, AreKept, KeepsTable, kept_block}
+use Rattle.ob_reopen.specs.Closings.{row_of}
+use Rattle.ob_reopen.specs.Resting.{KeepsTable, kept_block}
 use Rattle.ob_select.specs.Selecting.{AcceptsRows}
 use Rattle.ob_base.specs.declared.schema.Shape.{Shape as TableShape}
-use Rattle.ob_base.specs.declared.schema.Shape.TheVariants.{Flat as FlatShape, Indexed}
-use Rattle.ob_base.specs.Stored.{Stored}
+use Rattle.ob_base.specs.declared.schema.Shape.TheVariants.{Flat as FlatShape}
 use Rattle.ob_base.specs.declared.schema.Table.{Table}
-use Rattle.ob_tables.specs.Telling.{AreHeld, HoldsTable}
 use Rattle.ob_tables.proofs.TableLemmas.{no_entry}
 
 -- ---- the tables

@@ -1,101 +1,37 @@
 -- What is seen of a statement is lawful, whatever the store does.
-use Rattle.std.proofs.Common.{◌≡◌, inl, ◌-◌, ◌≤◌, ◌+◌, ◌*◌, ℕ, true, false, if◌then◌else◌, List, [], ◌++◌, length, take, Option, Some, None, Result, Ok, Err, refl, sym, ◌∙◌, ap, subst, arith}
-use Rattle.std.specs.Prelude.{IsSome, Bool, not, ◌&&◌}
-use Rattle.std.specs.Option.{option_map_or}
-use Rattle.std.proofs.lemmas.List.{length-append, length-take}
-use Rattle.ob_base.specs.declared.access.Access.{Access}
-use Rattle.ob_base.specs.declared.config.Public.{Public}
-use Rattle.ob_base.specs.declared.refusal.Refusal.{Refusal}
+use Rattle.ob_tables.proofs.Words.{Access, AfterCount, ap, arith, behind_run, blocks_for, Bool, by_shape, Changed, columns_of, copy_part, count_part, Created, Cut, Deleted, drop_script, Dropped, End, Err, false, Groups, height_of, if◌then◌else◌, Indexed, inl, insert_part, is_access, IsSome, Joined, Lawful, length, length-append, List, make_at, None, not, Ok, Option, option_map_or, Outcome, Public, refl, Refusal, refusal_now, Refused, refused_end, Result, rewrite_part, run_script, RunStop, Seen, selects_rows, Skeleton, skeleton, Some, Static, Stmt, Stored, stored_at, stored_regions, subst, sym, take, true, Whole, whole_run, width, with_table, ℕ, [], ◌&&◌, ◌*◌, ◌++◌, ◌+◌, ◌-◌, ◌∙◌, ◌≡◌, ◌≤◌}
+use Rattle.std.proofs.lemmas.List.{length-take}
 use Rattle.ob_base.specs.declared.refusal.Refusal.TheVariants.{Syntax, NoTable, NameTaken, NoColumn, WrongType, ValueRange, Limit, KeyRule, JoinKey, Duplicate, Full, TooManyGroups, NotConsecutive, Overflow, StoreFault, PadPassed, KeyRange, NeedsKey}
-use Rattle.ob_tables.specs.declared.stop.RunStop.{RunStop}
-use Rattle.ob_base.specs.declared.seen.End.{End}
-use Rattle.ob_base.specs.declared.seen.End.TheVariants.{Static, Whole, AfterCount, Joined, Cut}
-use Rattle.ob_base.specs.declared.seen.Seen.{Seen}
-use Rattle.ob_base.specs.declared.skeleton.Skeleton.{Skeleton}
 use Rattle.ob_base.specs.declared.schema.Shape.{Shape}
-use Rattle.ob_base.specs.declared.schema.Shape.TheVariants.{Flat, Indexed}
-use Rattle.ob_base.specs.declared.skeleton.Skeleton.TheVariants.{Create, Insert, Update, Delete, Drop as DropTable, Rows as RowsOf, Groups}
-use Rattle.ob_base.specs.Accesses.{discard_at, drop_script, make_at}
-use Rattle.ob_base.specs.Indexes.{by_shape, height_of}
-use Rattle.ob_base.specs.Numbers.{blocks_for}
-use Rattle.ob_base.specs.Schemas.{columns_of, width}
-use Rattle.ob_base.specs.Stored.{Stored, stored_at, stored_regions}
-use Rattle.ob_script.specs.Parts.{copy_part, count_part, create_part, index_part, insert_part, rewrite_part}
-use Rattle.ob_script.specs.Saved.{behind_run, run_script, whole_run}
-use Rattle.ob_script.specs.Script.{Behind, behind_change, blocks_of, dropped_script, extent_of, index_part_of, mutation_script, rows_width, save_part, shape_script, whole_by, whole_script, with_table}
-use Rattle.ob_sql.specs.declared.stmt.Stmt.{Stmt}
-use Rattle.ob_sql.specs.Skeleton.{skeleton}
-use Rattle.ob_mean.specs.Lawful.{Lawful, is_counted, selects_rows, EndsUncounted, CutUpTo, HoldsLeaf}
-use Rattle.ob_mean.specs.Replay.{is_access}
+use Rattle.ob_base.specs.declared.schema.Shape.TheVariants.{Flat}
+use Rattle.ob_base.specs.declared.skeleton.Skeleton.TheVariants.{Create, Insert, Update, Delete, Drop as DropTable, Rows as RowsOf}
+use Rattle.ob_base.specs.Accesses.{discard_at}
+use Rattle.ob_script.specs.Parts.{create_part, index_part}
+use Rattle.ob_script.specs.Script.{Behind, behind_change, blocks_of, dropped_script, extent_of, index_part_of, mutation_script, rows_width, save_part, shape_script, whole_by, whole_script}
+use Rattle.ob_mean.specs.Lawful.{is_counted, EndsUncounted, CutUpTo, HoldsLeaf}
 use Rattle.ob_mean.specs.Verdict.{ended}
-use Rattle.ob_verdict.specs.declared.outcome.Outcome.{Outcome}
-use Rattle.ob_verdict.specs.declared.outcome.Outcome.TheVariants.{Created, Inserted, Changed, Deleted, Dropped, Rows, Refused}
+use Rattle.ob_verdict.specs.declared.outcome.Outcome.TheVariants.{Inserted, Rows}
 use Rattle.ob_tables.specs.Running.{RefusedEarly, result_end}
-use Rattle.ob_verdict.specs.Outcomes.{refusal_now}
-use Rattle.ob_tables.specs.Refusals.{refused_end}
 
 -- ---- how it ends
 refused_cut : (r : Refusal) (k n : ℕ) → Cut k ≡ refused_end r n → k ≡ n
 refused_cut StoreFault k n is = cc is
-refused_cut (Syntax at) k n is = absurd (cc is)
-refused_cut NoTable k n is = absurd (cc is)
-refused_cut NameTaken k n is = absurd (cc is)
-refused_cut NoColumn k n is = absurd (cc is)
-refused_cut WrongType k n is = absurd (cc is)
-refused_cut ValueRange k n is = absurd (cc is)
-refused_cut Limit k n is = absurd (cc is)
-refused_cut KeyRule k n is = absurd (cc is)
-refused_cut JoinKey k n is = absurd (cc is)
-refused_cut Duplicate k n is = absurd (cc is)
-refused_cut Full k n is = absurd (cc is)
-refused_cut TooManyGroups k n is = absurd (cc is)
-refused_cut NotConsecutive k n is = absurd (cc is)
-refused_cut (Overflow i) k n is = absurd (cc is)
-refused_cut PadPassed k n is = absurd (cc is)
-refused_cut KeyRange k n is = absurd (cc is)
-refused_cut NeedsKey k n is = absurd (cc is)
+refused_cut other k n is = absurd (cc is)
 
 -- it is cut off after the accesses that it asked
 pub ends_cut : (result : Result Outcome RunStop) (k n : ℕ) → Cut k ≡ result_end result n → k ≡ n
 ends_cut (Ok (Refused r)) k n is = refused_cut r k n is
-ends_cut (Ok Created) k n is = absurd (cc is)
-ends_cut (Ok Inserted) k n is = absurd (cc is)
-ends_cut (Ok (Changed m)) k n is = absurd (cc is)
-ends_cut (Ok (Deleted m)) k n is = absurd (cc is)
-ends_cut (Ok Dropped) k n is = absurd (cc is)
-ends_cut (Ok (Rows m)) k n is = absurd (cc is)
 ends_cut (Err stop) k n is = cc is
+ends_cut other k n is = absurd (cc is)
 
 -- none was served with a statement before it
 refused_alone : (r : Refusal) (n : ℕ) → Joined ≡ refused_end r n → ⊥
 refused_alone StoreFault n is = cc is
-refused_alone (Syntax at) n is = cc is
-refused_alone NoTable n is = cc is
-refused_alone NameTaken n is = cc is
-refused_alone NoColumn n is = cc is
-refused_alone WrongType n is = cc is
-refused_alone ValueRange n is = cc is
-refused_alone Limit n is = cc is
-refused_alone KeyRule n is = cc is
-refused_alone JoinKey n is = cc is
-refused_alone Duplicate n is = cc is
-refused_alone Full n is = cc is
-refused_alone TooManyGroups n is = cc is
-refused_alone NotConsecutive n is = cc is
-refused_alone (Overflow i) n is = cc is
-refused_alone PadPassed n is = cc is
-refused_alone KeyRange n is = cc is
-refused_alone NeedsKey n is = cc is
+refused_alone other n is = cc is
 
 ends_alone : (result : Result Outcome RunStop) (n : ℕ) → Joined ≡ result_end result n → ⊥
 ends_alone (Ok (Refused r)) n is = refused_alone r n is
-ends_alone (Ok Created) n is = cc is
-ends_alone (Ok Inserted) n is = cc is
-ends_alone (Ok (Changed m)) n is = cc is
-ends_alone (Ok (Deleted m)) n is = cc is
-ends_alone (Ok Dropped) n is = cc is
-ends_alone (Ok (Rows m)) n is = cc is
-ends_alone (Err stop) n is = cc is
+ends_alone other n is = cc is
 
 -- no more is asked than the whole script
 take_short : (n : ℕ) (xs : List Access) → length (take n xs) ≤ length xs
@@ -158,10 +94,6 @@ run_short p s now = whole_less p (behind_run p) (behind_change p s) (λ left. by
 
 within : (p : Public) (sk : Skeleton) (result : Result Outcome RunStop) (end : End) (before after : List Access) → after ≡ before ++ run_script p sk (ended end)
     → end ≡ result_end result (length after - length before) → CutUpTo (length (whole_script p sk (ended end))) end
-within p sk result Static before after asked ends = tt
-within p sk result Whole before after asked ends = tt
-within p sk result AfterCount before after asked ends = tt
-within p sk result Joined before after asked ends = tt
 within p sk result (Cut k) before after asked ends =
     let is = ends_cut result k (length after - length before) ends in
     let sum = ap length asked in
@@ -169,6 +101,7 @@ within p sk result (Cut k) before after asked ends =
     let few = take_short k (whole_run p sk (ended (Cut k))) in
     let short = run_short p sk (ended (Cut k)) in
     omega (arith, is, sum, parts, few, short)
+within p sk result other before after asked ends = tt
 
 -- refused before any access exactly where it is seen so
 static_as : (o : Option Refusal) (result : Result Outcome RunStop) (now : Seen) → RefusedEarly o result now → (now.end ≡ Static → IsSome o) × (IsSome o → now.end ≡ Static)

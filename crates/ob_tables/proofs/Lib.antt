@@ -51,3 +51,4 @@ pub mod ListedLemmas
 pub mod ByNameLemmas
 pub mod ClosedLemmas
 pub mod NamesApart
+mod Words

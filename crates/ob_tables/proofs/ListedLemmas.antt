@@ -1,28 +1,16 @@
 -- The tables of an engine may be listed in a closing: their numbers are those of the places' last writes.
-use Rattle.std.proofs.Common.{◌≡◌, ◌≢◌, ◌⊎◌, inl, inr, ℕ, zero, suc, ◌+◌, ◌-◌, ◌*◌, ◌<◌, ◌≤◌, Bool, true, false, if◌then◌else◌, List, [], ◌∷◌, length, refl, sym, ◌∙◌, ap, subst, arith}
-use Rattle.std.specs.Prelude.{◌==◌, ◌&&◌}
-use Rattle.std.proofs.lemmas.Bool.{cases_lt}
+use Rattle.ob_tables.proofs.Words.{Access, ap, AreFlat, AreSalted, AreTables, arith, blocks_for, Bool, cases_lt, Closing, false, HasBlock, headings_of, if◌then◌else◌, Index, inl, inr, IsTable, length, List, Ready, refl, Region, Round, subst, suc, sym, table_region, true, World, zero, ℕ, [], ◌&&◌, ◌*◌, ◌+◌, ◌-◌, ◌<◌, ◌==◌, ◌∙◌, ◌∷◌, ◌≡◌, ◌≢◌, ◌≤◌, ◌⊎◌}
 use Rattle.std.proofs.lemmas.Grind.{div_ceil_times}
-use Rattle.ob_base.specs.declared.access.Access.{Access}
 use Rattle.ob_base.specs.declared.access.Access.TheVariants.{Make, Read, Write, Discard, Open}
 use Rattle.ob_base.specs.declared.schema.Table.{Table}
 use Rattle.ob_base.specs.Accesses.{number_from, writes}
-use Rattle.ob_base.specs.Numbers.{blocks_for}
-use Rattle.ob_flat.specs.Flats.{table_region}
-use Rattle.ob_vault.specs.declared.region.Region.{Region}
-use Rattle.ob_vault.specs.declared.region.Order.TheVariants.{Round}
-use Rattle.ob_vault.specs.State.{World}
 use Rattle.ob_vault.specs.Numbers.{IsNumber, last_number}
-use Rattle.ob_vault.specs.Tied.{OnTurn, Ready}
+use Rattle.ob_vault.specs.Tied.{OnTurn}
 use Rattle.ob_vault.proofs.LawLemmas.{last_is, numbers_alone}
 use Rattle.ob_vault.proofs.Runs.{numbers_run}
-use Rattle.ob_reopen.specs.declared.closing.Closing.{Closing}
-use Rattle.ob_reopen.specs.Writings.{AreSalted, HasBlock, MayList}
+use Rattle.ob_reopen.specs.Writings.{MayList}
 use Rattle.ob_base.specs.declared.schema.Shape.TheVariants.{Flat as FlatShape}
-use Rattle.ob_base.specs.Stored.{headings_of}
-use Rattle.ob_mean.specs.Flats.{AreFlat}
-use Rattle.ob_oram.specs.declared.index.Index.{Index}
-use Rattle.ob_tables.specs.Engines.{AreTables, IsTable, IsWrittenRound}
+use Rattle.ob_tables.specs.Engines.{IsWrittenRound}
 use Rattle.ob_tables.proofs.TableLemmas.{flat_each, region_below}
 
 -- ---- no number is above the count of writes

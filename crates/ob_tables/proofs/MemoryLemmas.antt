@@ -1,9 +1,5 @@
 -- Where want of memory may stop a statement.
-use Rattle.std.proofs.Common.{inl, inr}
-use Rattle.ob_base.specs.declared.config.Public.{Public}
-use Rattle.ob_base.specs.declared.seen.Seen.{Seen}
-use Rattle.ob_sql.specs.declared.stmt.Stmt.{Stmt}
-use Rattle.ob_store.specs.State.{StoreState}
+use Rattle.ob_tables.proofs.Words.{inl, inr, Public, Seen, Stmt, StoreState}
 use Rattle.ob_tables.specs.Memory.{LacksMemory}
 
 -- less may be said of the emitter

@@ -1,59 +1,19 @@
 -- INSERT, UPDATE and DELETE: a table's slots change, and it lies in a fresh region.
-use Rattle.std.proofs.Common.{◌≡◌, inl, inr, ◌-◌, ◌*◌, ℕ, Bool, false, List, [], ◌∷◌, ◌++◌, length, Some, None, Option, Ok, Err, Result, refl, sym, ◌∙◌, ap, subst, arith, slice_get, slice_set}
-use Rattle.std.specs.Option.{option_map, option_map_or}
-use Rattle.std.specs.Prelude.{IsTrue}
-use Rattle.std.proofs.lemmas.Bool.{cases_eq}
-use Rattle.ob_base.specs.declared.access.Access.{Access}
-use Rattle.ob_base.specs.declared.config.Public.{Public}
-use Rattle.ob_tables.specs.declared.stop.RunStop.{RunStop}
-use Rattle.ob_base.specs.declared.schema.Heading.{Heading}
+use Rattle.ob_tables.proofs.Words.{Access, accessed, Agrees, answer_of, ap, AreHeld, AreTables, arith, behind_run, blocks_for, Bool, cases_eq, changed_at, count_of, Cut, Draws, early_refusal, End, Engine, Err, false, flat_of, Former, former_of, has_index, HasNoRows, Heading, headings, headings_of, Held, in_slots, Index, inl, inr, is_access, is_late, is_stop, IsAt, IsFlat, IsHonest, IsTable, IsTrue, left_region, length, limits_of, List, make_at, MakesFlat, None, Ok, OpErr, Option, option_map, option_map_or, others_of, Outcome, outcome_of, Public, ReadsTrue, refl, refusal_now, Result, RevState, RoomState, Round, RunStop, selects_rows, ServesSilently, settle_all, skeleton, slice_get, slice_set, Slots, Some, Stmt, Stored, stored_at, stored_region, stored_regions, StoreState, subst, sym, table_region, Tables, two, UsesRoom, Vault, verdict, went_join, went_rests, Whole, whole_run, width, with_table, World, world_of, ℕ, [], ◌*◌, ◌++◌, ◌-◌, ◌∙◌, ◌∷◌, ◌≡◌}
 use Rattle.ob_base.specs.declared.schema.Table.{Table}
-use Rattle.ob_base.specs.declared.seen.End.{End}
-use Rattle.ob_base.specs.declared.seen.End.TheVariants.{Whole, Cut}
-use Rattle.ob_base.specs.Accesses.{make_at}
-use Rattle.ob_base.specs.Numbers.{blocks_for}
-use Rattle.ob_base.specs.Schemas.{width}
-use Rattle.ob_base.specs.Stored.{Stored, headings, headings_of, stored_at, stored_region, stored_regions, changed_at}
-use Rattle.ob_room.specs.RoomState.{RoomState}
-use Rattle.ob_store.specs.State.{StoreState}
-use Rattle.ob_select.specs.Selecting.{UsesRoom}
 use Rattle.ob_store.specs.Calls.{ChangesNothing}
-use Rattle.ob_vault.specs.State.{RevState, World}
-use Rattle.ob_vault.specs.declared.vault.Vault.{Vault}
 use Rattle.ob_vault.specs.Places.{at}
-use Rattle.ob_vault.specs.Calls.{two}
-use Rattle.ob_vault.specs.Words.{IsHonest}
-use Rattle.ob_vault.proofs.Runs.{went_join}
-use Rattle.ob_vault.proofs.WordLemmas.{went_rests}
-use Rattle.ob_script.specs.Saved.{behind_run, left_region, region_at, whole_run}
-use Rattle.ob_script.specs.Script.{with_table, mutation_script, shape_script}
+use Rattle.ob_script.specs.Saved.{region_at}
+use Rattle.ob_script.specs.Script.{mutation_script, shape_script}
 use Rattle.ob_script.specs.Tables.{moved, tables_after}
-use Rattle.ob_flat.specs.declared.fault.OpErr.{OpErr}
 use Rattle.ob_flat.specs.declared.flat.Flat.{Flat}
-use Rattle.ob_flat.specs.Flats.{IsFlat, Represents as FlatRepresents, table_region}
-use Rattle.ob_vault.specs.declared.region.Order.TheVariants.{Round}
+use Rattle.ob_flat.specs.Flats.{Represents as FlatRepresents}
 use Rattle.ob_flat.proofs.Resting.{represents_rests}
-use Rattle.ob_row.specs.Slots.{Slots}
 use Rattle.ob_mutate.specs.Mutating.{Mutates, former_script}
-use Rattle.ob_mutate.specs.declared.settling.Former.{Former}
-use Rattle.ob_sql.specs.declared.stmt.Stmt.{Stmt}
-use Rattle.ob_sql.specs.Skeleton.{skeleton}
-use Rattle.ob_mean.specs.Refusals.{early_refusal, limits_of}
-use Rattle.ob_mean.specs.Batches.{settle_all}
-use Rattle.ob_mean.proofs.FlatLemmas.{MakesFlat, shape_is}
-use Rattle.ob_mean.specs.Replay.{has_index, is_access}
+use Rattle.ob_mean.proofs.FlatLemmas.{shape_is}
 use Rattle.ob_base.specs.declared.schema.Shape.TheVariants.{Flat as FlatShape}
-use Rattle.ob_oram.specs.declared.index.Index.{Index}
-use Rattle.ob_mean.specs.Lawful.{selects_rows}
-use Rattle.ob_mean.specs.Verdict.{Draws, Held, accessed, in_slots, Tables, is_late, verdict, ended as seen_to}
-use Rattle.ob_tables.specs.declared.engine.Engine.{Engine}
-use Rattle.ob_verdict.specs.declared.outcome.Outcome.{Outcome}
-use Rattle.ob_tables.specs.Engines.{IsAt, IsTable, AreTables, flat_of, former_of, others_of}
-use Rattle.ob_tables.specs.Agreeing.{Agrees, world_of, count_of}
-use Rattle.ob_tables.specs.Running.{HasNoRows, answer_of, is_stop}
-use Rattle.ob_verdict.specs.Outcomes.{refusal_now, outcome_of}
-use Rattle.ob_tables.specs.Serving.{ServesSilently}
-use Rattle.ob_tables.specs.Telling.{AreHeld, ReadsTrue, Represents}
+use Rattle.ob_mean.specs.Verdict.{ended as seen_to}
+use Rattle.ob_tables.specs.Telling.{Represents}
 use Rattle.ob_tables.proofs.FormerLemmas.{former_is, kept_former, left_stays}
 use Rattle.ob_tables.proofs.HeldLemmas.{Beside, held_at, held_headings, held_plain, held_moved}
 use Rattle.ob_tables.proofs.FoundLemmas.{named_flat, shape_found}

@@ -1,10 +1,8 @@
 -- No two tables of an engine have one name.
-use Rattle.std.proofs.Common.{◌≡◌, ℕ, suc, false, List, [], ◌∷◌, Some, refl, arith}
-use Rattle.std.specs.Prelude.{bytes_eq, slice_get}
+use Rattle.ob_tables.proofs.Words.{arith, bytes_eq, false, has_repeats, headings_of, List, refl, slice_get, Some, suc, ℕ, [], ◌∷◌, ◌≡◌}
 use Rattle.std.specs.List.{list_any}
 use Rattle.ob_base.specs.declared.schema.Table.{Table}
-use Rattle.ob_base.specs.Lists.{has_repeats}
-use Rattle.ob_base.specs.Stored.{AreApart, headings_of}
+use Rattle.ob_base.specs.Stored.{AreApart}
 use Rattle.ob_tables.proofs.TableLemmas.{AreNamed}
 use Rattle.ob_verdict.proofs.AlikeTables.{names_of}
 use Rattle.ob_verdict.proofs.InPlaceProof.{none_either}

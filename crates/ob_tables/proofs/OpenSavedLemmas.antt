@@ -1,47 +1,28 @@
 -- An engine goes on from what a run saved: the closing is read under keys that know no other salt than its own.
-use Rattle.std.proofs.Common.{◌≡◌, ◌≢◌, ◌⊎◌, inl, inr, ℕ, ◌==◌, ◌+◌, ◌-◌, ◌*◌, ◌≤◌, Bool, true, false, if◌then◌else◌, List, [], ◌∷◌, ◌++◌, length, map, Option, Some, None, Result, Ok, Err, refl, sym, ◌∙◌, ap, subst, arith, append-nil}
-use Rattle.std.specs.Prelude.{IsTrue}
-use Rattle.std.proofs.lemmas.Bool.Decides.{nat_tests}
+use Rattle.ob_tables.proofs.Words.{ap, append-nil, arith, Began, Bool, Closing, draw_seed_of, DrawPlace, Engine, Err, false, if◌then◌else◌, inl, inr, InUse, IsBounded, IsFree, IsHonest, IsMarked, IsTrue, KeptRegion, key_of, KeySet, length, List, Listed, map, Mark, nat_tests, None, Ok, opened_public, Option, Public, Ready, refl, ReopensTables, Rests, Result, RevState, RoomState, Some, start_of, StoreState, subst, sym, Tables, true, Vault, World, ℕ, [], ◌*◌, ◌++◌, ◌+◌, ◌-◌, ◌==◌, ◌∙◌, ◌∷◌, ◌≡◌, ◌≢◌, ◌≤◌, ◌⊎◌}
 use Rattle.ob_base.specs.declared.config.Config.{Config}
-use Rattle.ob_base.specs.declared.config.Public.{Public}
-use Rattle.ob_base.specs.declared.mark.Mark.{Mark}
-use Rattle.ob_base.specs.declared.mark.Mark.TheVariants.{Fresh, InUse, Closed, Begun, Saved}
-use Rattle.ob_mean.specs.Verdict.{Tables}
-use Rattle.ob_seal.specs.KeySet.{KeySet, draw_seed_of, pair_in, pair_of}
+use Rattle.ob_reopen.specs.declared.mark.Mark.TheVariants.{Fresh, Closed, Begun, Saved}
+use Rattle.ob_seal.specs.KeySet.{AreAlike, pair_in, pair_of}
 use Rattle.ob_seal.specs.Sealed.{held_of, pair_by}
 use Rattle.ob_seal.specs.declared.pairs.Pair.{Pair}
-use Rattle.ob_store.specs.State.{KeptRegion, StoreState}
-use Rattle.ob_store.specs.Calls.{IsBounded, ChangesNothing as OnlyRoom}
-use Rattle.ob_store.specs.Runs.{Began}
-use Rattle.ob_vault.specs.declared.vault.Vault.{Vault}
-use Rattle.ob_vault.specs.State.{RevState, World, from_earlier}
-use Rattle.ob_vault.specs.Places.{at, start_of}
+use Rattle.ob_store.specs.Calls.{ChangesNothing as OnlyRoom}
+use Rattle.ob_vault.specs.State.{from_earlier}
+use Rattle.ob_vault.specs.Places.{at}
 use Rattle.ob_vault.specs.Rekeying.{rekeyed}
-use Rattle.ob_vault.specs.Tied.{Ready}
-use Rattle.ob_vault.specs.Words.{IsHonest}
 use Rattle.ob_vault.proofs.Rekeyed.{ready_rekeyed}
-use Rattle.ob_reopen.specs.declared.closing.Closing.{Closing}
 use Rattle.ob_reopen.specs.declared.fault.OpenErr.{OpenErr}
 use Rattle.ob_reopen.specs.declared.fault.OpenErr.TheVariants.{Failed, NoMemory}
-use Rattle.ob_reopen.specs.declared.listed.Listed.{Listed}
 use Rattle.ob_reopen.specs.Closings.{KeepsRows, open_script, read_script}
-use Rattle.ob_reopen.specs.Limits.{IsMarked}
-use Rattle.ob_reopen.specs.Openings.{ReadsClosing, ReopensTables}
-use Rattle.ob_reopen.specs.Reopened.{NotOpened, opened_public, opening_script}
-use Rattle.ob_reopen.specs.Resting.{Rests}
+use Rattle.ob_reopen.specs.Openings.{ReadsClosing}
+use Rattle.ob_reopen.specs.Reopened.{NotOpened, opening_script, OpeningCause}
 use Rattle.ob_reopen.specs.Saved.{RestsBy, reopening_keys, salted_of}
 use Rattle.ob_reopen.specs.Spelling.{catalogue_rows}
+use Rattle.ob_reopen.proofs.AlikeKeys.{ones_alike}
 use Rattle.ob_reopen.proofs.ReadsRekeyed.{reads_rekeyed, rows_agree}
 use Rattle.ob_reopen.proofs.SavedLemmas.{rests_under}
-use Rattle.rand_chacha.specs.ChaCha.{key_of}
-use Rattle.ob_room.specs.RoomState.{RoomState}
-use Rattle.ob_seal.specs.Draws.{DrawPlace}
-use Rattle.ob_select.specs.Settings.{IsFree}
-use Rattle.ob_tables.specs.declared.engine.Engine.{Engine}
 use Rattle.ob_tables.specs.Engines.{IsConfig}
 use Rattle.ob_tables.specs.Reopening.{IsOpened, OpensEngine}
 use Rattle.ob_tables.specs.Saving.{NamesClosing, OpensSaved}
-use Rattle.ob_reopen.specs.Reopened.{OpeningCause}
 use Rattle.ob_tables.proofs.OpeningLemmas.{began_all, faults_mid, fits_read, follows, not_begun, not_read, opened_as, opens_all, opens_shut, opens_unlisted, spare_tables}
 
 -- the keys of the closing's region, whatever tables it lists
@@ -94,8 +75,11 @@ module _ {R : Type 0} (state : R → RevState) (config : Config) (secret salt : 
     -- the rows that rest there, under the keys that it is read under
     rows_there : (tables : Tables) (rests : RestsBy secret closed closing s.kept tables) → KeepsRows v0.keys closing (catalogue_rows closing.region rests.rests.listed) s1.kept
     rows_there tables rests =
-        let same : pair_of rests.keys closing.region ≡ pair_of v0.keys closing.region =
-        rests.of closing.region ∙ ap (pair_by secret) (sym rests.own) ∙ sym (own_pair secret salt closed closing []) ∙ ap (λ (k : KeySet). pair_of k closing.region) (sym keyed) in
+        let pair : pair_of rests.keys closing.region ≡ pair_of first_keys closing.region =
+        rests.of closing.region ∙ ap (pair_by secret) (sym rests.own) ∙ sym (own_pair secret salt closed closing []) in
+        let same : AreAlike rests.keys v0.keys closing.region =
+        subst (λ (k : KeySet). AreAlike rests.keys k closing.region) (sym keyed)
+        (ones_alike rests.keys first_keys closing.region (rests.ones closing.region (inl refl)) tt pair) in
         let is = rows_agree rests.keys v0.keys closing (catalogue_rows closing.region rests.rests.listed) s.kept same rests.rests.closing_is.rows in
         record {
           region = is.region;
@@ -127,9 +111,10 @@ module _ {R : Type 0} (state : R → RevState) (config : Config) (secret salt : 
       abbrev keys : KeySet
       keys = reopening_keys secret salt closed closing listed
 
-      same_pair : pair_of v0.keys closing.region ≡ pair_of keys closing.region
-      same_pair =
-          ap (λ (k : KeySet). pair_of k closing.region) keyed ∙ own_pair secret salt closed closing [] ∙ sym (own_pair secret salt closed closing listed)
+      same_keys : AreAlike v0.keys keys closing.region
+      same_keys =
+          subst (λ (k : KeySet). AreAlike k keys closing.region) (sym keyed)
+          (ones_alike first_keys keys closing.region tt tt (own_pair secret salt closed closing [] ∙ sym (own_pair secret salt closed closing listed)))
 
       -- a first part was asked of what opens its tables
       shut_by : (e : OpenErr) (t : StoreState) → Began (open_script closing.pack listed) s2 t → OpeningCause e closing s t → t.lie ≡ s2.lie → NotOpened closing first_keys e s t
@@ -161,7 +146,7 @@ module _ {R : Type 0} (state : R → RevState) (config : Config) (secret salt : 
         pub reads_first : ReadsClosing closing (Ok listed) (at state from_first s1) (at state v2 s2)
         reads_first =
             subst (λ (w : World). ReadsClosing closing (Ok listed) (at state from_first s1) w) (sym (rekeys s2))
-            (reads_rekeyed closing keys fore amid (Ok listed) same_pair reads.awaits.unasked (room.lie ∙ honest) (λ q. room.keeps.live q ∙ empty q) reads)
+            (reads_rekeyed closing keys fore amid (Ok listed) same_keys reads.awaits.unasked (room.lie ∙ honest) (λ q. room.keeps.live q ∙ empty q) reads)
 
         pub spare_first : 2 * closing.blocks ≤ s1.spare → length listed ≤ s2.spare
         spare_first spare = spare_tables state config keys closing marked s s1 fresh honest room from_first ready_first started refl none v2 s2 listed reads_first spare
@@ -222,18 +207,14 @@ module _ {R : Type 0} (state : R → RevState) (config : Config) (secret salt : 
 
 -- the closing that a mark names
 pub named_marked : (mark : Mark) (pack : ℕ) (closed : Option (List ℕ)) (closing : Closing) → NamesClosing mark pack closed closing → IsMarked closing
-named_marked Fresh pack closed closing is = absurd is
-named_marked InUse pack closed closing is = absurd is
-named_marked Begun pack closed closing is = absurd is
 named_marked (Closed region blocks number of) pack closed closing is = is.3
-named_marked (Saved region blocks number of salt) pack closed closing is = is.4
+named_marked (Saved region blocks number of salt check) pack closed closing is = is.4
+named_marked other pack closed closing is = absurd is
 
 pub named_pack : (mark : Mark) (pack : ℕ) (closed : Option (List ℕ)) (closing : Closing) → NamesClosing mark pack closed closing → closing.pack ≡ pack
-named_pack Fresh pack closed closing is = absurd is
-named_pack InUse pack closed closing is = absurd is
-named_pack Begun pack closed closing is = absurd is
 named_pack (Closed region blocks number of) pack closed closing is = ap (λ (c : Closing). c.pack) is.2 ∙ is.0
-named_pack (Saved region blocks number of salt) pack closed closing is = ap (λ (c : Closing). c.pack) is.3 ∙ is.0
+named_pack (Saved region blocks number of salt check) pack closed closing is = ap (λ (c : Closing). c.pack) is.3 ∙ is.0
+named_pack other pack closed closing is = absurd is
 
 -- by the closing that was found for a mark, it is so by the one that the mark names
 pub named_saved : {R : Type 0} (state : R → RevState) (config : Config) (secret salt : List ℕ) (mark : Mark) (found : Closing) (by : Option (List ℕ)) (result : Result (Engine R) OpenErr) (s t : StoreState)

@@ -1,59 +1,39 @@
 -- An engine is opened: what is asked, how it may end, and which tables it has.
+use Rattle.ob_tables.proofs.Words.{AcceptsClosings, Access, Agrees, ap, append-nil, AreDraws, AreHeld, AreKept, AreTables, arith, Began, Bool, Calm, cases_eq, cases_lt, Closing, Did, draw_seed_of, DrawPlace, Engine, Err, false, Index, inl, inr, InUse, IsBeside, IsBounded, IsCatalogue, IsFree, IsHonest, IsMarked, IsReopened, IsTable, IsTrue, KeptRegion, key_of, KeySet, length, length-append, length-map, Lie, List, Listed, makes, map, Mark, max, None, Ok, opened_public, Option, option_map, others_of, Public, Ready, refl, ReopensTables, replicate, Rests, RevState, RoomState, Round, slice_get, Some, Start, start_of, StoreState, subst, suc, sym, Tables, TagFits, true, Vault, World, world_of, zero, ℕ, [], ◌*◌, ◌++◌, ◌+◌, ◌-◌, ◌<◌, ◌∙◌, ◌∷◌, ◌≡◌, ◌≢◌, ◌≤◌, ◌⊎◌}
 use Rattle.ob_tables.proofs.TableLemmas.{no_entry, no_stash}
-use Rattle.std.proofs.Common.{◌≡◌, ◌≢◌, ◌⊎◌, inl, inr, ℕ, zero, suc, ◌+◌, ◌-◌, ◌*◌, ◌<◌, ◌≤◌, true, false, List, [], ◌∷◌, ◌++◌, length, length-append, map, Option, Some, None, Ok, Err, refl, sym, ◌∙◌, ap, subst, arith, append-nil}
-use Rattle.std.specs.Prelude.{Bool, IsTrue, max, replicate, slice_get}
-use Rattle.std.specs.Option.{option_map}
-use Rattle.std.proofs.lemmas.Bool.{cases_eq, cases_lt}
-use Rattle.std.proofs.lemmas.List.{length-map, length-replicate}
+use Rattle.std.proofs.lemmas.List.{length-replicate}
 use Rattle.std.proofs.lemmas.Option.{slice_get-map}
-use Rattle.ob_base.specs.declared.access.Access.{Access}
 use Rattle.ob_base.specs.declared.access.Access.TheVariants.{Read}
 use Rattle.ob_base.specs.declared.config.Config.{Config}
-use Rattle.ob_base.specs.declared.config.Public.{Public}
-use Rattle.ob_base.specs.declared.mark.Mark.{Mark}
-use Rattle.ob_base.specs.declared.mark.Mark.TheVariants.{Fresh, InUse, Closed, Begun, Saved}
+use Rattle.ob_reopen.specs.declared.mark.Mark.TheVariants.{Fresh, Closed, Begun, Saved}
 use Rattle.ob_base.specs.declared.schema.Table.{Table}
-use Rattle.ob_base.specs.Accesses.{makes, read_at, region_of}
+use Rattle.ob_base.specs.Accesses.{read_at, region_of}
 use Rattle.ob_base.specs.Counts.{Rises}
 use Rattle.ob_base.specs.Lists.{each}
 use Rattle.ob_base.proofs.AccessLemmas.{makes-append}
-use Rattle.ob_mean.specs.Verdict.{Tables}
 use Rattle.ob_script.proofs.Makes.{makes-count_part}
-use Rattle.ob_room.specs.RoomState.{RoomState, clear}
-use Rattle.ob_seal.specs.KeySet.{KeySet, draw_seed_of}
-use Rattle.ob_store.specs.State.{KeptRegion, Lie, StoreState}
-use Rattle.ob_store.specs.Calls.{IsBounded, ChangesNothing as OnlyRoom}
-use Rattle.ob_store.specs.Runs.{Did, Began}
+use Rattle.ob_room.specs.RoomState.{clear}
+use Rattle.ob_store.specs.Calls.{ChangesNothing as OnlyRoom}
 use Rattle.ob_store.proofs.Steps.{did_join, began_join, length-each}
-use Rattle.ob_vault.specs.declared.region.Order.TheVariants.{Round}
-use Rattle.ob_vault.specs.declared.vault.Vault.{Vault}
-use Rattle.ob_vault.specs.State.{RevState, Start, World, from_earlier}
-use Rattle.ob_vault.specs.Places.{at, start_of}
+use Rattle.ob_vault.specs.State.{from_earlier}
+use Rattle.ob_vault.specs.Places.{at}
 use Rattle.ob_vault.specs.Resuming.{Stays, Unasked, open_at}
-use Rattle.ob_vault.specs.Tied.{AllSealed, Calm, TagFits, Ready, Scope, next_fault}
-use Rattle.ob_vault.specs.Words.{IsHonest}
-use Rattle.ob_reopen.specs.declared.closing.Closing.{Closing}
+use Rattle.ob_vault.specs.Tied.{AllSealed, Scope, next_fault}
 use Rattle.ob_reopen.specs.declared.fault.OpenErr.{OpenErr}
 use Rattle.ob_reopen.specs.declared.fault.OpenErr.TheVariants.{Failed, Tampered, NoMemory}
-use Rattle.ob_reopen.specs.declared.listed.Listed.{Listed}
-use Rattle.ob_reopen.specs.Limits.{IsCatalogue, IsMarked}
 use Rattle.ob_reopen.specs.Closings.{KeepsRows, closing_region, open_script, read_script}
 use Rattle.ob_reopen.specs.Spelling.{catalogue_rows}
-use Rattle.ob_reopen.specs.Openings.{ClosingTampered, Follows, IsNumbered, IsOf, IsReopened, OpenCause, ReadsClosing, ReopensTables}
+use Rattle.ob_reopen.specs.Openings.{ClosingTampered, Follows, IsNumbered, IsOf, OpenCause, ReadsClosing}
 use Rattle.ob_reopen.specs.Writings.{StandApart}
 use Rattle.ob_reopen.proofs.TableLemmas.{is_of, table_is, tables_apart}
-use Rattle.ob_tables.specs.declared.engine.Engine.{Engine}
-use Rattle.ob_tables.specs.Agreeing.{Agrees, AreDraws, first_draws, world_of}
-use Rattle.ob_select.specs.Settings.{AreSettings, IsFree}
-use Rattle.ob_tables.specs.Engines.{AreTables, IsBeside, IsConfig, IsTable, others_of, IsStash}
-use Rattle.ob_oram.specs.declared.index.Index.{Index}
-use Rattle.ob_seal.specs.Draws.{DrawPlace, draw_of}
-use Rattle.rand_chacha.specs.ChaCha.{key_of}
+use Rattle.ob_tables.specs.Agreeing.{first_draws}
+use Rattle.ob_select.specs.Settings.{AreSettings}
+use Rattle.ob_tables.specs.Engines.{IsConfig, IsStash}
+use Rattle.ob_seal.specs.Draws.{draw_of}
 use Rattle.ob_tables.specs.Reopening.{IsClosed, IsOpened, OpensEngine}
-use Rattle.ob_reopen.specs.Reopened.{NotOpened, OpeningCause, opened_public, opened_start, opening_script}
-use Rattle.ob_reopen.specs.Resting.{AcceptsClosings, AreKept, Rests}
+use Rattle.ob_reopen.specs.Reopened.{NotOpened, OpeningCause, opened_start, opening_script}
 use Rattle.ob_select.specs.Selecting.{AcceptsRows}
-use Rattle.ob_tables.specs.Telling.{AreHeld, Represents}
+use Rattle.ob_tables.specs.Telling.{Represents}
 use Rattle.ob_tables.proofs.GivenNumbers.{fits_as, fits_listed, start_all, start_first}
 use Rattle.ob_tables.proofs.KeptLemmas.{closing_sealed, held_open, tables_sealed}
 
@@ -265,7 +245,7 @@ module _ {R : Type 0} (state : R → RevState) (config : Config) (keys : KeySet)
       mid = at state v1 s2
 
       start_mid : Stays (λ q. q ≡ closing.region) first mid → IsNumbered closing mid → start_of v1 ≡ opened_start closing []
-      start_mid stays numbered = start_first closing first mid started stays.writes stays.region numbered
+      start_mid stays numbered = start_first closing first mid started stays.writes stays.region stays.linked numbered
 
       keys_mid : Stays (λ q. q ≡ closing.region) first mid → v1.keys ≡ keys
       keys_mid stays = stays.keys ∙ keyed
@@ -375,7 +355,7 @@ module _ {R : Type 0} (state : R → RevState) (config : Config) (keys : KeySet)
             pub start_last : start_of v2 ≡ opened_start closing listed
             start_last =
                 start_all closing listed mid last reads.numbered reopens.opens.ok.stays.given reopens.tables start_read
-                reopens.opens.ok.stays.writes reopens.opens.ok.stays.region
+                reopens.opens.ok.stays.writes reopens.opens.ok.stays.region reopens.opens.ok.stays.linked
 
             pub keys_last : v2.keys ≡ keys
             keys_last = reopens.opens.ok.stays.keys ∙ keys_mid reads.opens.ok.stays
@@ -646,18 +626,12 @@ rows_read config r0 r1 new read = ap (λ (r : RoomState). r.rows) read ∙ ap (�
 
 -- the closing that a mark names
 pub closed_marked : (mark : Mark) (pack : ℕ) (closing : Closing) → IsClosed mark pack closing → IsMarked closing
-closed_marked Fresh pack closing is = absurd is
-closed_marked InUse pack closing is = absurd is
-closed_marked Begun pack closing is = absurd is
-closed_marked (Saved region blocks number of salt) pack closing is = absurd is
 closed_marked (Closed region blocks number of) pack closing is = is.2
+closed_marked other pack closing is = absurd is
 
 pub closed_pack : (mark : Mark) (pack : ℕ) (closing : Closing) → IsClosed mark pack closing → closing.pack ≡ pack
-closed_pack Fresh pack closing is = absurd is
-closed_pack InUse pack closing is = absurd is
-closed_pack Begun pack closing is = absurd is
-closed_pack (Saved region blocks number of salt) pack closing is = absurd is
 closed_pack (Closed region blocks number of) pack closing is = ap (λ (c : Closing). c.pack) is.1 ∙ is.0
+closed_pack other pack closing is = absurd is
 
 -- what a vault goes on from that starts there
 pub started_as : (closing : Closing) (start : Start) (writes region n : ℕ) → start ≡ from_earlier writes region → writes ≡ closing.number + n - 1 → n ≡ closing.blocks → region ≡ closing.region

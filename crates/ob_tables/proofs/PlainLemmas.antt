@@ -1,37 +1,18 @@
 -- What a statement means that accesses no index.
-use Rattle.std.proofs.Common.{◌≡◌, ℕ, Bool, true, false, List, [], Option, Some, None, Result, Ok, Err, refl, ◌∙◌, ap}
-use Rattle.std.specs.Prelude.{IfOk, IfErr, if◌then◌else◌, is_some, not}
-use Rattle.std.specs.Option.{is_none, option_map_or}
-use Rattle.ob_base.specs.declared.access.Access.{Access}
-use Rattle.ob_base.specs.declared.config.Public.{Public}
-use Rattle.ob_base.specs.declared.refusal.Refusal.{Refusal}
-use Rattle.ob_base.specs.declared.schema.Heading.{Heading}
+use Rattle.ob_tables.proofs.Words.{Access, accessed, AfterCount, answer_of, ap, Bool, by_shape, Cut, drawn_by, Draws, draws_taken, early_refusal, End, Err, false, followed, Groups, has_index, Heading, headings, IfOk, if◌then◌else◌, is_access, is_index, is_late, Joined, limits_of, List, MakesFlat, None, not, Ok, OpErr, Option, option_map_or, Outcome, Public, refl, Refusal, refusal, Result, RunStop, selects_rows, settle, settled, Skeleton, skeleton, Some, Static, Stmt, Stored, stored_at, stored_regions, Tables, true, Whole, with_table, ℕ, [], ◌∙◌, ◌≡◌}
+use Rattle.std.specs.Prelude.{IfErr, is_some}
+use Rattle.std.specs.Option.{is_none}
 use Rattle.ob_base.specs.declared.schema.Shape.{Shape}
 use Rattle.ob_base.specs.declared.schema.Shape.TheVariants.{Flat as FlatShape}
-use Rattle.ob_base.specs.declared.seen.End.{End}
-use Rattle.ob_base.specs.declared.seen.End.TheVariants.{Static, Whole, AfterCount, Joined, Cut}
-use Rattle.ob_base.specs.declared.skeleton.Skeleton.{Skeleton}
-use Rattle.ob_base.specs.declared.skeleton.Skeleton.TheVariants.{Create as CreateSkeleton, Insert as InsertSkeleton, Update as UpdateSkeleton, Delete as DeleteSkeleton, Drop as DropSkeleton, Rows, Groups}
-use Rattle.ob_base.specs.Indexes.{by_shape}
-use Rattle.ob_base.specs.Stored.{Stored, headings, stored_at, stored_regions}
-use Rattle.ob_flat.specs.declared.fault.OpErr.{OpErr}
+use Rattle.ob_base.specs.declared.skeleton.Skeleton.TheVariants.{Create as CreateSkeleton, Insert as InsertSkeleton, Update as UpdateSkeleton, Delete as DeleteSkeleton, Drop as DropSkeleton, Rows}
 use Rattle.ob_flat.specs.declared.fault.OpErr.TheVariants as OpErrs
-use Rattle.ob_script.specs.Script.{with_table}
 use Rattle.ob_sql.specs.declared.stmt.SelectRows.{SelectRows}
-use Rattle.ob_sql.specs.declared.stmt.Stmt.{Stmt}
 use Rattle.ob_sql.specs.declared.stmt.Stmt.TheVariants.{Create, Insert, Update, Delete, Drop as DropTable, SelectRows as RowsStmt, SelectTotals as TotalsStmt}
-use Rattle.ob_sql.specs.Skeleton.{skeleton}
-use Rattle.ob_mean.specs.Lawful.{is_counted, selects_rows}
-use Rattle.ob_mean.specs.Refusals.{early_refusal, is_index, limits_of}
-use Rattle.ob_mean.specs.Replay.{draws_taken, drawn_by, has_index, is_access}
-use Rattle.ob_mean.specs.Settle.{settle, settle_served, settled}
-use Rattle.ob_mean.specs.Step.{followed}
-use Rattle.ob_mean.specs.Verdict.{Accessed, Draws, Tables, accessed, accessed_now, gone, is_full, is_late, last_refusal, refusal, rows_refusal, selected_places}
-use Rattle.ob_mean.proofs.FlatLemmas.{MakesFlat, headings-regions}
-use Rattle.ob_verdict.specs.declared.outcome.Outcome.{Outcome}
-use Rattle.ob_tables.specs.declared.stop.RunStop.{RunStop}
+use Rattle.ob_mean.specs.Lawful.{is_counted}
+use Rattle.ob_mean.specs.Settle.{settle_served}
+use Rattle.ob_mean.specs.Verdict.{Accessed, accessed_now, gone, is_full, last_refusal, rows_refusal, selected_places}
+use Rattle.ob_mean.proofs.FlatLemmas.{headings-regions}
 use Rattle.ob_tables.specs.declared.stop.RunStop.TheVariants as Stops
-use Rattle.ob_tables.specs.Running.{answer_of}
 use Rattle.ob_tables.specs.Telling.{StopsFull}
 use Rattle.ob_tables.proofs.HeldLemmas.{stored_flat}
 
@@ -47,11 +28,7 @@ IsPlain _ = Unit {0}
 
 not_full : (stop : RunStop) → IsPlain stop → stop ≡ Stops.StashFull → ⊥
 not_full Stops.StashFull plain is = plain
-not_full Stops.StoreFault plain is = absurd (cc is)
-not_full Stops.SinkFault plain is = absurd (cc is)
-not_full Stops.NoMemory plain is = absurd (cc is)
-not_full (Stops.Tampered q x) plain is = absurd (cc is)
-not_full Stops.KeeperFault plain is = absurd (cc is)
+not_full other plain is = absurd (cc is)
 
 module _ (p : Public) (ts : Tables) (stmt : Stmt) (none : accessed ts stmt ≡ None) where
   pub no_access_now : (m : ℕ) → accessed_now p m ts stmt ≡ None
@@ -97,29 +74,19 @@ module _ (d : Draws) (p : Public) (m : ℕ) (ts : Tables) (stmt : Stmt) (r : Ref
 
 -- ---- by what is public
 pub counts_rows : (p : Public) (stmt : Stmt) → is_access p (skeleton stmt) ≡ false → is_counted p stmt ≡ selects_rows stmt
-counts_rows p (Create table columns capacity shape) none = refl
-counts_rows p (Insert table columns values) none = refl
-counts_rows p (Update table sets search) none = refl
-counts_rows p (Delete table search) none = refl
-counts_rows p (DropTable table) none = refl
 counts_rows p (RowsStmt q) none = ap (λ (b : Bool). not b) none
-counts_rows p (TotalsStmt q) none = refl
+counts_rows p other none = refl
 
 pub none_drawn : (p : Public) (s : Skeleton) → is_access p s ≡ false → MakesFlat s → drawn_by p s ≡ 0
 none_drawn p (CreateSkeleton table cs n shape) none made = ap (λ (x : Shape). by_shape x 0 n) made
-none_drawn p (InsertSkeleton table cs) none made = ap (λ (b : Bool). if b then 1 else 0) none
-none_drawn p (UpdateSkeleton table cs) none made = ap (λ (b : Bool). if b then 1 else 0) none
-none_drawn p (DeleteSkeleton table) none made = ap (λ (b : Bool). if b then 1 else 0) none
 none_drawn p (DropSkeleton table) none made = refl
-none_drawn p (Rows source cs) none made = ap (λ (b : Bool). if b then 1 else 0) none
 none_drawn p (Groups table cs key) none made = refl
+none_drawn p other none made = ap (λ (b : Bool). if b then 1 else 0) none
 
 pub no_draws : (p : Public) (s : Skeleton) (end : End) → is_access p s ≡ false → MakesFlat s → draws_taken p s end ≡ 0
 no_draws p s Static none made = refl
-no_draws p s Whole none made = none_drawn p s none made
-no_draws p s AfterCount none made = none_drawn p s none made
 no_draws p s Joined none made = refl
-no_draws p s (Cut n) none made = none_drawn p s none made
+no_draws p s other none made = none_drawn p s none made
 
 -- what belongs to the table of a name, where it is the same for each flat one
 pub table_is : (p : Public) (name : List ℕ) (f g : Stored ℕ → List Access) → has_index p name ≡ false → ((t : Stored ℕ) → t.heading.shape ≡ FlatShape → f t ≡ g t) → with_table name p f ≡ with_table name p g

@@ -1,47 +1,18 @@
 -- A statement that reads a table and changes none.
-use Rattle.std.proofs.Common.{◌≡◌, inr, ◌-◌, ℕ, false, List, [], length, Some, None, Option, Ok, refl, sym, ◌∙◌, ap, subst, arith, slice_get}
-use Rattle.std.specs.Option.{option_map_or}
-use Rattle.ob_base.specs.declared.access.Access.{Access}
+use Rattle.ob_tables.proofs.Words.{Access, Agrees, answer_of, ap, AreHeld, AreTables, arith, blocks_for, count_part, Cut, End, Engine, false, flat_of, free_after, Groups, inr, is_stop, IsAt, IsFlat, IsFree, Lasts, length, List, None, none, Ok, Opens, OpErr, Option, option_map_or, others_of, Outcome, PassCut, RanStatement, refl, RevState, RoomState, Skeleton, slice_get, Some, Stored, StoreState, subst, sym, Tables, UsesRoom, Vault, Went, went_join, went_rests, Whole, whole_run, World, world_of, ℕ, [], ◌-◌, ◌∙◌, ◌≡◌}
 use Rattle.ob_base.specs.declared.schema.Table.{Table}
-use Rattle.ob_base.specs.declared.seen.End.{End}
-use Rattle.ob_base.specs.declared.seen.End.TheVariants.{Whole, Cut}
 use Rattle.ob_base.specs.declared.skeleton.ColumnName.{ColumnName}
-use Rattle.ob_base.specs.declared.skeleton.Skeleton.{Skeleton}
-use Rattle.ob_base.specs.declared.skeleton.Skeleton.TheVariants.{Groups}
-use Rattle.ob_base.specs.Numbers.{blocks_for}
-use Rattle.ob_base.specs.Stored.{Stored}
-use Rattle.ob_room.specs.RoomState.{RoomState}
-use Rattle.ob_store.specs.State.{StoreState}
 use Rattle.ob_store.specs.Calls.{ChangesNothing}
-use Rattle.ob_script.specs.Parts.{count_part}
-use Rattle.ob_script.specs.Saved.{whole_run}
 use Rattle.ob_script.specs.Script.{blocks_of, extent_of}
-use Rattle.ob_vault.specs.State.{RevState, World}
-use Rattle.ob_vault.specs.Calls.{Lasts, Went, none}
 use Rattle.ob_vault.specs.Places.{at}
-use Rattle.ob_vault.specs.declared.vault.Vault.{Vault}
-use Rattle.ob_vault.proofs.Runs.{went_join}
-use Rattle.ob_vault.proofs.WordLemmas.{went_rests}
-use Rattle.ob_flat.specs.declared.fault.OpErr.{OpErr}
 use Rattle.ob_flat.specs.declared.flat.Flat.{Flat}
-use Rattle.ob_flat.specs.Flats.{IsFlat, IsSized}
-use Rattle.ob_flat.specs.Passes.{PassCut}
+use Rattle.ob_flat.specs.Flats.{IsSized}
 use Rattle.ob_flat.proofs.Runs.{pass_after}
-use Rattle.ob_mean.specs.Verdict.{Tables, ended as seen_to}
-use Rattle.ob_tables.specs.declared.engine.Engine.{Engine}
-use Rattle.ob_verdict.specs.declared.outcome.Outcome.{Outcome}
-use Rattle.ob_tables.specs.Agreeing.{Agrees, world_of}
-use Rattle.ob_tables.specs.Engines.{IsAt, AreTables, flat_of, others_of}
+use Rattle.ob_mean.specs.Verdict.{ended as seen_to}
 use Rattle.ob_base.specs.declared.schema.Shape.TheVariants.{Flat as FlatShape}
-use Rattle.ob_select.specs.Settings.{IsFree}
-use Rattle.ob_select.specs.Opening.{Opens}
-use Rattle.ob_tables.specs.Running.{answer_of, is_stop, RanStatement}
-use Rattle.ob_select.specs.Selecting.{UsesRoom}
-use Rattle.ob_tables.specs.Telling.{AreHeld}
 use Rattle.ob_tables.proofs.HeldLemmas.{held_kept}
 use Rattle.ob_tables.proofs.RunLemmas.{IsAnswered, engine_after, leaves_none, none_by, ran_stopped, ran_whole}
 use Rattle.ob_tables.proofs.TableLemmas.{flat_kept, tables_kept, stored_found}
-use Rattle.ob_select.proofs.RoomLemmas.{free_after}
 
 -- ---- its table, once the store has room
 module _ {R : Type 0} (state : R → RevState) (old : Engine R) (s s1 : StoreState) (i : ℕ) (table : Table) (agrees : Agrees state old s) (rests : ChangesNothing s s1)

@@ -1,57 +1,25 @@
 -- How a statement of an engine ends.
-use Rattle.std.proofs.Common.{IsTrue, ◌≡◌, ◌⊎◌, inl, inr, ◌≤◌, ◌+◌, ◌-◌, ◌%◌, ◌^◌, max, ℕ, Bool, true, false, if◌then◌else◌, List, [], ◌++◌, length, take, Ok, Err, OnOk, Option, Some, None, Result, Global, slice_get, refl, sym, ◌∙◌, ap, subst, arith, append-nil}
-use Rattle.std.specs.declared.vec.Vec.{Vec}
-use Rattle.ob_base.specs.declared.access.Access.{Access}
-use Rattle.ob_base.specs.declared.config.Public.{Public}
-use Rattle.ob_base.specs.declared.refusal.Refusal.{Refusal}
-use Rattle.ob_tables.specs.declared.stop.RunStop.{RunStop}
+use Rattle.ob_tables.proofs.Words.{Access, AfterCount, Agrees, answer_of, ap, append-nil, AreDraws, AreTables, arith, Began, Bool, by_fault, Cut, draw_seed_of, drawn_by, DrawPlace, Draws, draws_taken, End, Engine, Err, false, free_after, Global, if◌then◌else◌, Index, inl, inr, is_fault, is_late, is_stop, is_store_fault, IsFree, IsStashOf, IsTrue, Joined, key_of, KeySet, later_rests, length, length-append, List, makes, max, nat_tests, None, Ok, Opens, OpErr, Option, others_of, Outcome, PassCut, Public, RanStatement, Ready, refl, Refusal, Refused, refused_end, Result, RevState, RoomState, run_script, RunCause, RunStop, Seen, Skeleton, slice_get, Some, Start, start_of, Static, StoreState, subst, sym, take, true, UsesRoom, Vault, Vec, Went, Whole, whole_run, World, world_of, ℕ, [], ◌%◌, ◌++◌, ◌+◌, ◌-◌, ◌<◌, ◌^◌, ◌∙◌, ◌≡◌, ◌≤◌, ◌⊎◌}
+use Rattle.std.proofs.Common.{OnOk}
 use Rattle.ob_tables.specs.declared.stop.RunStop.TheVariants as Stops
-use Rattle.ob_base.specs.declared.seen.End.{End}
-use Rattle.ob_base.specs.declared.seen.End.TheVariants.{Static, Whole, AfterCount, Joined, Cut}
-use Rattle.ob_base.specs.declared.seen.Seen.{Seen}
-use Rattle.ob_base.specs.declared.skeleton.Skeleton.{Skeleton}
-use Rattle.ob_base.specs.Accesses.{makes}
 use Rattle.ob_base.proofs.AccessLemmas.{makes-append}
-use Rattle.ob_store.specs.State.{StoreState}
 use Rattle.ob_store.specs.Calls.{ChangesNothing}
-use Rattle.ob_store.specs.Runs.{Began}
-use Rattle.ob_store.proofs.Steps.{began_take, later_refl, later_rests}
-use Rattle.ob_vault.specs.State.{RevState, VaultState, Start, World}
-use Rattle.ob_vault.specs.Tied.{ReadsIn, Ready}
-use Rattle.ob_vault.specs.Calls.{Went}
-use Rattle.ob_flat.specs.declared.fault.OpErr.{OpErr}
+use Rattle.ob_store.proofs.Steps.{began_take, later_refl}
+use Rattle.ob_vault.specs.State.{VaultState}
+use Rattle.ob_vault.specs.Tied.{ReadsIn}
 use Rattle.ob_flat.specs.declared.fault.OpErr.TheVariants as OpErrs
-use Rattle.ob_flat.specs.Passes.{PassCut, PassCause, is_of_access}
+use Rattle.ob_flat.specs.Passes.{PassCause, is_of_access}
 use Rattle.ob_mutate.specs.Mutating.{StaysStored}
-use Rattle.ob_script.specs.Saved.{left_by, left_then, run_next, run_script, whole_run}
-use Rattle.std.specs.Prelude.{◌<◌}
+use Rattle.ob_script.specs.Saved.{left_by, left_then, run_next}
 use Rattle.std.specs.Result.{is_err}
-use Rattle.std.proofs.lemmas.Bool.Decides.{nat_tests}
-use Rattle.std.proofs.lemmas.List.{length-append}
 use Rattle.ob_script.specs.Tables.{tables_after, tables_then}
 use Rattle.ob_base.specs.declared.schema.Table.{Table}
-use Rattle.ob_room.specs.RoomState.{RoomState}
-use Rattle.ob_vault.specs.declared.vault.Vault.{Vault}
-use Rattle.ob_vault.specs.Places.{at, start_of}
-use Rattle.ob_mean.specs.Replay.{draws_taken, drawn_by}
-use Rattle.ob_mean.specs.Verdict.{Draws, is_late, ended as seen_to}
-use Rattle.ob_oram.specs.declared.index.Index.{Index}
-use Rattle.ob_seal.specs.Draws.{DrawPlace, draw_of}
-use Rattle.ob_seal.specs.KeySet.{KeySet, draw_seed_of}
-use Rattle.rand_chacha.specs.ChaCha.{key_of}
-use Rattle.ob_tables.specs.declared.engine.Engine.{Engine}
-use Rattle.ob_verdict.specs.declared.outcome.Outcome.{Outcome}
-use Rattle.ob_verdict.specs.declared.outcome.Outcome.TheVariants.{Refused}
-use Rattle.ob_select.specs.Settings.{IsFree}
-use Rattle.ob_tables.specs.Engines.{AreTables, FitsSettings, IsStashOf, others_of}
-use Rattle.ob_tables.specs.Refusals.{IsNoFault, refused_end}
-use Rattle.ob_verdict.specs.Outcomes.{by_fault}
-use Rattle.ob_base.specs.Refusals.{is_store_fault}
-use Rattle.ob_tables.specs.Agreeing.{Agrees, AreDraws, world_of}
-use Rattle.ob_select.specs.Opening.{Opens}
-use Rattle.ob_select.specs.Selecting.{UsesRoom}
-use Rattle.ob_tables.specs.Running.{answer_of, is_fault, is_stop, outcome_end, result_end, stops_access, RunCause, GoesOn, Continues, RanStatement, IsFaulted}
-use Rattle.ob_select.proofs.RoomLemmas.{free_after}
+use Rattle.ob_vault.specs.Places.{at}
+use Rattle.ob_mean.specs.Verdict.{ended as seen_to}
+use Rattle.ob_seal.specs.Draws.{draw_of}
+use Rattle.ob_tables.specs.Engines.{FitsSettings}
+use Rattle.ob_tables.specs.Refusals.{IsNoFault}
+use Rattle.ob_tables.specs.Running.{outcome_end, result_end, stops_access, GoesOn, Continues, IsFaulted}
 use Rattle.ob_tables.proofs.TableLemmas.{no_entry}
 
 abbrev pub world : VaultState → StoreState → World
@@ -97,24 +65,18 @@ asks_none outcome P well faulted = absurd (cc (well, faulted))
 
 -- want of memory alone is answered as such
 pub only_memory : (e : OpErr) → answer_of e ≡ Err Stops.NoMemory → e ≡ OpErrs.NoMemory
-only_memory OpErrs.Failed is = absurd (cc is)
-only_memory (OpErrs.Tampered q x) is = absurd (cc is)
-only_memory OpErrs.Sink is = absurd (cc is)
 only_memory OpErrs.NoMemory is = refl
+only_memory other is = absurd (cc is)
 
 -- no pass over a flat table ends the session as an access of an index does
 pub no_access : (e : OpErr) → stops_access (answer_of e) ≡ true → ⊥
 no_access OpErrs.Failed stops = cc stops
-no_access (OpErrs.Tampered q x) stops = cc stops
-no_access OpErrs.Sink stops = cc stops
-no_access OpErrs.NoMemory stops = cc stops
+no_access other stops = cc stops
 
 -- an access that failed was asked
 pub asks_cut : (e : OpErr) (s t : StoreState) → (IsTrue (is_of_access e) → length s.asked < length t.asked) → IsFaulted (answer_of e) → length s.asked < length t.asked
 asks_cut OpErrs.Failed s t asks faulted = asks refl
-asks_cut (OpErrs.Tampered q x) s t asks faulted = absurd faulted
-asks_cut OpErrs.Sink s t asks faulted = absurd faulted
-asks_cut OpErrs.NoMemory s t asks faulted = absurd faulted
+asks_cut other s t asks faulted = absurd faulted
 
 -- ---- what a statement leaves in the store
 -- nothing, where it leaves no region
@@ -152,10 +114,8 @@ may_have state old s agrees = record { fit = agrees.fit; aside = agrees.aside; k
 -- nothing is drawn, however a statement ends
 pub taken_none : (p : Public) (s : Skeleton) → drawn_by p s ≡ 0 → (end : End) → draws_taken p s end ≡ 0
 taken_none p s none Static = refl
-taken_none p s none Whole = none
-taken_none p s none AfterCount = none
 taken_none p s none Joined = refl
-taken_none p s none (Cut n) = none
+taken_none p s none other = none
 
 -- the same draws, where none was taken
 pub draws_same : {R : Type 0} (old new : Engine R) (d : Draws) (n : ℕ) → n ≡ 0 → new.vault.keys ≡ old.vault.keys → new.draws ≡ old.draws → AreDraws old d → AreDraws new (record d { drawn = d.drawn + n })
@@ -259,22 +219,16 @@ module _ {R : Type 0} (state : R → RevState) (skeleton : Skeleton) (old : Engi
 
   cut_ends : (e : OpErr) (n : ℕ) → Cut n ≡ result_end (answer_of e) n
   cut_ends OpErrs.Failed n = refl
-  cut_ends (OpErrs.Tampered q x) n = refl
-  cut_ends OpErrs.Sink n = refl
-  cut_ends OpErrs.NoMemory n = refl
+  cut_ends other n = refl
 
   cut_cause : (e : OpErr) (a b : World) → PassCause e a b → RunCause (answer_of e) a b
   cut_cause OpErrs.Failed a b cause = cause
-  cut_cause (OpErrs.Tampered q x) a b cause = cause
-  cut_cause OpErrs.Sink a b cause = cause
-  cut_cause OpErrs.NoMemory a b cause = cause
+  cut_cause other a b cause = cause
 
   cut_on : (e : OpErr) (indexes : Vec Index Global) (draws : DrawPlace) (n : ℕ) → GoesOn state skeleton (run_next old.public skeleton (seen_to (Cut n))) old (engine_left old indexes draws v room old.public.tables (seen_to (Cut n)) false) t
       → Continues state skeleton (run_next old.public skeleton (seen_to (Cut n))) (answer_of e) old (engine_left old indexes draws v room old.public.tables (seen_to (Cut n)) (is_stop (answer_of e))) t
   cut_on OpErrs.Failed indexes draws n on = on
-  cut_on (OpErrs.Tampered q x) indexes draws n on = refl
-  cut_on OpErrs.Sink indexes draws n on = refl
-  cut_on OpErrs.NoMemory indexes draws n on = refl
+  cut_on other indexes draws n on = refl
 
   -- a pass gave up, which left the indexes, and the regions that there were
   pub stopped_left : (indexes : Vec Index Global) (draws : DrawPlace) (some : ℕ → Type 0) (n : ℕ) (x : List Access) (e : OpErr) → indexes.items ≡ old.indexes.items

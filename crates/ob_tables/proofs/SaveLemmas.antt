@@ -1,56 +1,30 @@
 -- The tables of an engine are listed in a closing, and it goes on.
-use Rattle.std.proofs.Common.{◌≡◌, ◌≢◌, ◌⊎◌, inl, inr, ℕ, zero, suc, ◌+◌, ◌<◌, ◌≤◌, ◌^◌, max, Bool, true, false, List, [], ◌∷◌, ◌++◌, get_or, length, Option, Some, None, Result, Ok, Err, refl, sym, ◌∙◌, ap, subst, arith, append-nil}
-use Rattle.std.specs.Prelude.{IsTrue, nat_le, slice_get}
+use Rattle.ob_tables.proofs.Words.{AcceptsClosings, Access, Agrees, ap, append-nil, AreFlat, AreSalted, AreTables, arith, Began, Bool, Calm, cases_eq, catalogue_of, Closing, count_of, draw_seed_of, Engine, Err, false, flat_of, free_after, get_or, Heading, headings_of, Index, inl, inr, IsBeside, IsCatalogue, IsClosing, IsFree, IsStashOf, IsTableRegion, IsTrue, KeepsLive, KeptRegion, key_of, KeySet, later_rests, length, List, Listed, make_at, makes, Mark, max, MayAsk, neither, None, Ok, one, Option, others_of, refl, Region, represents_lasts, Rests, Result, RevState, RoomState, Seals, seals_join, seals_rests, slice_get, Some, start_of, StoreState, subst, suc, sym, Tables, true, Vault, Went, went_join, went_rests, World, world_of, WritesClosing, zero, ℕ, [], ◌++◌, ◌+◌, ◌<◌, ◌^◌, ◌∙◌, ◌∷◌, ◌≡◌, ◌≢◌, ◌≤◌, ◌⊎◌}
+use Rattle.std.specs.Prelude.{nat_le}
 use Rattle.std.specs.List.{All}
-use Rattle.std.proofs.lemmas.Bool.{cases_eq, leb-false}
-use Rattle.rand_chacha.specs.ChaCha.{key_of}
-use Rattle.ob_base.specs.declared.access.Access.{Access}
-use Rattle.ob_base.specs.declared.mark.Mark.{Mark}
-use Rattle.ob_base.specs.declared.schema.Heading.{Heading}
+use Rattle.std.proofs.lemmas.Bool.{leb-false}
 use Rattle.ob_base.specs.declared.schema.Table.{Table}
-use Rattle.ob_base.specs.Accesses.{make_at, makes, writes}
-use Rattle.ob_base.specs.Stored.{headings_of}
-use Rattle.ob_mean.specs.Flats.{AreFlat}
-use Rattle.ob_mean.specs.Verdict.{Tables}
-use Rattle.ob_flat.proofs.Tables.{represents_lasts}
-use Rattle.ob_oram.specs.declared.index.Index.{Index}
-use Rattle.ob_room.specs.RoomState.{RoomState}
+use Rattle.ob_base.specs.Accesses.{writes}
 use Rattle.ob_script.proofs.Makes.{makes-create_part}
 use Rattle.ob_script.proofs.Numbers.{length-create_part}
-use Rattle.ob_seal.specs.KeySet.{KeySet, draw_seed_of, pair_of}
-use Rattle.ob_select.proofs.RoomLemmas.{free_after}
-use Rattle.ob_select.specs.Settings.{IsFree}
-use Rattle.ob_store.specs.State.{KeptRegion, Shape, StoreState}
-use Rattle.ob_store.specs.Calls.{KeepsLive, ChangesNothing as OnlyRoom}
-use Rattle.ob_store.specs.Runs.{Began}
-use Rattle.ob_store.proofs.Steps.{later_refl, later_rests}
-use Rattle.ob_vault.specs.declared.region.Region.{Region}
-use Rattle.ob_vault.specs.declared.vault.Vault.{Vault}
-use Rattle.ob_vault.specs.State.{RevState, World}
-use Rattle.ob_mean.proofs.EarlyLemmas.{neither}
-use Rattle.ob_vault.specs.Places.{at, start_of}
-use Rattle.ob_vault.specs.Tied.{Calm}
-use Rattle.ob_vault.specs.Calls.{Cause, CutShort, Seals, Went, one}
+use Rattle.ob_seal.specs.KeySet.{pair_of}
+use Rattle.ob_store.specs.State.{Shape}
+use Rattle.ob_store.specs.Calls.{ChangesNothing as OnlyRoom}
+use Rattle.ob_store.proofs.Steps.{later_refl}
+use Rattle.ob_vault.specs.Places.{at}
+use Rattle.ob_vault.specs.Calls.{Cause, CutShort}
 use Rattle.ob_vault.specs.VaultCalls.{Forgets}
-use Rattle.ob_vault.specs.Words.{MayAsk}
-use Rattle.ob_vault.proofs.Runs.{cut_after, seals_join, seals_none, went_join, went_none, went_spent, went_wider}
-use Rattle.ob_vault.proofs.WordLemmas.{seals_rests, went_rests}
-use Rattle.ob_reopen.specs.declared.closing.Closing.{Closing}
+use Rattle.ob_vault.proofs.Runs.{cut_after, seals_none, went_none, went_spent, went_wider}
 use Rattle.ob_reopen.specs.declared.fault.CloseErr.{CloseErr}
 use Rattle.ob_reopen.specs.declared.fault.CloseErr.TheVariants.{Failed, NoMemory}
-use Rattle.ob_reopen.specs.declared.listed.Listed.{Listed}
 use Rattle.ob_reopen.specs.Closed.{ClosingCause, is_used_up}
-use Rattle.ob_reopen.specs.Closings.{IsClosing, saved_mark, write_script}
+use Rattle.ob_reopen.specs.Closings.{saved_mark, write_script}
 use Rattle.ob_reopen.specs.Keepers.{AreSaltBytes, IsMark}
-use Rattle.ob_reopen.specs.Limits.{IsCatalogue}
-use Rattle.ob_reopen.specs.Resting.{AcceptsClosings, IsNeeded, Rests, by_name}
-use Rattle.ob_reopen.specs.Writings.{AreSalted, WritesClosing, catalogue_of, next_closing as written_closing, vault_error}
+use Rattle.ob_reopen.specs.Resting.{IsNeeded, by_name}
+use Rattle.ob_reopen.specs.Writings.{next_closing as written_closing, vault_error}
 use Rattle.ob_reopen.proofs.CatalogueLaws.{catalogue_has, catalogue_is}
 use Rattle.ob_reopen.proofs.OutlastLemmas.{rests_last}
-use Rattle.ob_tables.specs.declared.engine.Engine.{Engine}
-use Rattle.ob_tables.specs.Agreeing.{Agrees, count_of, world_of}
 use Rattle.ob_tables.specs.Closing.{next_closing}
-use Rattle.ob_tables.specs.Engines.{AreTables, IsBeside, IsTableRegion, IsStashOf, flat_of, others_of}
 use Rattle.ob_tables.specs.Saving.{SavesEngine, Waits, WaitsAt}
 use Rattle.ob_tables.specs.Telling.{Represents}
 use Rattle.ob_tables.proofs.ByNameLemmas.{named_in, named_kept, table_kept_as}
@@ -492,8 +466,8 @@ module _ {R : Type 0} (state : R → RevState) (e : Engine R) (s s1 : StoreState
               let same = length-listed in
               omega (arith, used, long, same, spare)
 
-          marked : (salt : List ℕ) → AreSaltBytes salt → IsMark (saved_mark (next_closing e s) salt)
-          marked salt bytes =
+          marked : (salt check : List ℕ) → AreSaltBytes salt × AreSaltBytes check → IsMark (saved_mark (next_closing e s) salt check)
+          marked salt check bytes =
               let parts = neither (nat_le (2 ^ 63) (next_closing e s).region) (nat_le (2 ^ 63) (next_closing e s).number) free in
               let next = agrees.ready.tied.next in
               let same = agrees.next in
@@ -508,18 +482,21 @@ module _ {R : Type 0} (state : R → RevState) (e : Engine R) (s s1 : StoreState
                   pack_least = agrees.settings.pack_least;
                   pack_most = agrees.settings.pack_most;
                 },
-                bytes,
+                bytes.0,
+                bytes.1,
               )
 
-          pub saves_all : (mark : Mark) (salt : List ℕ) → AreSaltBytes salt → (pair_of v2.keys made.region).salt ≡ Some salt → mark ≡ saved_mark made salt → SavesEngine state (Ok mark) e s saved t
-          saves_all mark salt bytes of mark_is =
-              let named : mark ≡ saved_mark (next_closing e s) salt = mark_is ∙ ap (λ (c : Closing). saved_mark c salt) made_is in
+          pub saves_all : (mark : Mark) (salt check : List ℕ) → AreSaltBytes salt × AreSaltBytes check → (pair_of v2.keys made.region).salt ≡ Some salt → check ≡ (pair_of v2.keys made.region).check
+              → mark ≡ saved_mark made salt check → SavesEngine state (Ok mark) e s saved t
+          saves_all mark salt check bytes of checks mark_is =
+              let its : check ≡ (pair_of e.vault.keys (next_closing e s).region).check = checks ∙ (λ i. (pair_of (went.lasts.keys i) (made_is i).region).check) in
+              let named : mark ≡ saved_mark (next_closing e s) salt (pair_of e.vault.keys (next_closing e s).region).check = mark_is ∙ (λ i. saved_mark (made_is i) salt (its i)) in
               record {
                 ok = record {
                   salt = salt;
                   of = (λ i. (pair_of (sym went.lasts.keys i) (ap (λ (c : Closing). c.region) (sym made_is) i)).salt) ∙ of;
                   is = named;
-                  within = subst IsMark (sym named) (marked salt bytes);
+                  within = subst IsMark (sym mark_is) (subst (λ (c : Closing). IsMark (saved_mark c salt check)) (sym made_is) (marked salt check bytes));
                   did = went.did;
                   agrees = agrees_now;
                   public = λ i. record e.public { next_region = next_last i; closing = Some (made_is i).region };

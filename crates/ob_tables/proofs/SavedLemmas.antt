@@ -1,25 +1,11 @@
 -- What waits in the store behind a statement, where tables are saved.
-use Rattle.std.proofs.Common.{◌≡◌, ◌<◌, ℕ, zero, suc, cond, Bool, true, false, if◌then◌else◌, List, [], ◌∷◌, Option, Some, None, Ok, Err, Result, refl, sym, ◌∙◌, ap, arith}
-use Rattle.std.specs.Prelude.{bytes_eq, slice_get}
-use Rattle.std.proofs.lemmas.Slice.Eq.{bytes_eq-Decides}
-use Rattle.std.specs.Option.{option_map}
-use Rattle.ob_base.specs.declared.config.Public.{Public}
+use Rattle.ob_tables.proofs.Words.{AfterCount, Agrees, ap, arith, Bool, bytes_eq, bytes_eq-Decides, cond, Cut, End, Engine, Err, false, Groups, if◌then◌else◌, IsTableRegion, Joined, left_region, List, None, Ok, Option, option_map, Outcome, Public, RanStatement, refl, Result, RevState, RunStop, Skeleton, slice_get, Some, Static, Stored, stored_at, stored_region, stored_regions, StoreState, suc, sym, true, Whole, zero, ℕ, [], ◌<◌, ◌∙◌, ◌∷◌, ◌≡◌}
 use Rattle.ob_base.specs.declared.schema.Table.{Table}
-use Rattle.ob_base.specs.declared.seen.End.{End}
-use Rattle.ob_base.specs.declared.seen.End.TheVariants.{Static, Whole, AfterCount, Joined, Cut}
-use Rattle.ob_base.specs.declared.skeleton.Skeleton.{Skeleton}
-use Rattle.ob_base.specs.declared.skeleton.Skeleton.TheVariants.{Create, Insert, Update, Delete, Drop as DropTable, Rows, Groups}
-use Rattle.ob_base.specs.Stored.{Stored, stored_at, stored_region, stored_regions}
-use Rattle.ob_script.specs.Saved.{left_by, left_region, left_then, run_next}
-use Rattle.ob_store.specs.State.{StoreState}
-use Rattle.ob_vault.specs.State.{RevState}
-use Rattle.ob_verdict.specs.declared.outcome.Outcome.{Outcome}
-use Rattle.ob_tables.specs.Agreeing.{Agrees, replaced_of}
-use Rattle.ob_tables.specs.Engines.{IsTableRegion}
-use Rattle.ob_tables.specs.Running.{GoesOn, LeftBehind, RanStatement}
+use Rattle.ob_base.specs.declared.skeleton.Skeleton.TheVariants.{Create, Insert, Update, Delete, Drop as DropTable, Rows}
+use Rattle.ob_script.specs.Saved.{left_by, left_then, run_next}
+use Rattle.ob_tables.specs.Agreeing.{replaced_of}
+use Rattle.ob_tables.specs.Running.{GoesOn, LeftBehind}
 use Rattle.ob_tables.specs.Saving.{Waits, WaitsAt}
-use Rattle.ob_tables.specs.declared.engine.Engine.{Engine}
-use Rattle.ob_tables.specs.declared.stop.RunStop.{RunStop}
 
 -- the region of a name, behind a first table that has it or hasn't
 abbrev behind : (name : List ℕ) (t : Table) (ts : List Table) → Bool → Option ℕ

@@ -1,17 +1,8 @@
 -- Blocks stay sealed while a statement runs.
-use Rattle.std.proofs.Common.{◌≡◌, ℕ, Bool, List, sym, subst}
-use Rattle.ob_base.specs.Schemas.{Columns}
+use Rattle.ob_tables.proofs.Words.{Agrees, Bool, Columns, Engine, KeepsSealed, later_rests, List, RevState, Seals, seals_join, seals_rests, StoreState, subst, sym, World, world_of, ℕ, ◌≡◌}
 use Rattle.ob_store.specs.Calls.{ChangesNothing}
-use Rattle.ob_store.specs.State.{StoreState}
-use Rattle.ob_store.proofs.Steps.{later_rests}
-use Rattle.ob_vault.specs.Calls.{Seals}
-use Rattle.ob_vault.specs.State.{RevState, World}
-use Rattle.ob_vault.proofs.Runs.{seals_join, seals_none}
-use Rattle.ob_vault.proofs.WordLemmas.{seals_rests}
+use Rattle.ob_vault.proofs.Runs.{seals_none}
 use Rattle.ob_flat.specs.Flats.{Accepts}
-use Rattle.ob_tables.specs.Agreeing.{Agrees, world_of}
-use Rattle.ob_tables.specs.Telling.{KeepsSealed}
-use Rattle.ob_tables.specs.declared.engine.Engine.{Engine}
 
 module _ {R : Type 0} (state : R → RevState) (old : Engine R) (s s1 : StoreState) (rests : ChangesNothing s s1) where
   -- nothing but room was made

@@ -1,36 +1,19 @@
 -- A statement, from what its kind says of it.
-use Rattle.std.proofs.Common.{◌≡◌, inl, ℕ, Bool, true, false, List, [], Option, Some, None, Result, Ok, Err, refl, sym, ◌∙◌, ap, subst}
-use Rattle.std.specs.Prelude.{IfOk, IfErr}
-use Rattle.ob_base.specs.declared.refusal.Refusal.{Refusal}
-use Rattle.ob_tables.specs.declared.stop.RunStop.{RunStop}
+use Rattle.ob_tables.proofs.Words.{accepted_answer, Agrees, Answer, answer_labels, ap, AreHeld, AreInPlace, Bool, by_fault, Changed, count_of, Created, database, Deleted, Draws, Dropped, Engine, Err, Event, false, followed, HasNoRows, IfOk, inl, is_access, is_fault, is_store_fault, IsSilent, List, None, Ok, Option, Outcome, outcome_of, refl, Refusal, refusal, refusal_now, Refused, Result, RevState, RunStop, selects_rows, Serves, ServesSilently, settle, settled, skeleton, Some, Static, Stmt, StoreState, subst, sym, Tables, true, verdict, world_of, ℕ, [], ◌∙◌, ◌≡◌}
+use Rattle.std.specs.Prelude.{IfErr}
 use Rattle.ob_tables.specs.declared.stop.RunStop.TheVariants as Stops
-use Rattle.ob_base.specs.declared.seen.End.TheVariants.{Static}
-use Rattle.ob_base.specs.Events.{Event}
-use Rattle.ob_base.specs.Refusals.{is_store_fault}
-use Rattle.ob_store.specs.State.{StoreState}
-use Rattle.ob_vault.specs.State.{RevState}
-use Rattle.ob_sql.specs.declared.stmt.Stmt.{Stmt}
-use Rattle.ob_sql.specs.Skeleton.{skeleton}
-use Rattle.ob_mean.specs.declared.answer.Answer.{Answer}
 use Rattle.ob_mean.specs.declared.answer.Answer.TheVariants as A
-use Rattle.ob_mean.specs.Lawful.{selects_rows}
-use Rattle.ob_mean.specs.Replay.{is_access}
 use Rattle.ob_sql.specs.declared.stmt.Stmt.TheVariants.{Create, Insert, Update, Delete, Drop as DropTable, SelectRows as RowsStmt, SelectTotals as TotalsStmt}
 use Rattle.ob_mean.specs.Prints.{Prints, Unfinished}
-use Rattle.ob_mean.specs.Settle.{settle, settled}
-use Rattle.ob_mean.specs.Step.{accepted_answer, answered, followed}
-use Rattle.ob_mean.specs.Verdict.{Draws, Tables, database, refusal, verdict, ended as seen_to}
+use Rattle.ob_mean.specs.Step.{answered}
+use Rattle.ob_mean.specs.Verdict.{ended as seen_to}
 use Rattle.ob_mean.proofs.VerdictLemmas.{refused_early, seen_early}
-use Rattle.ob_verdict.specs.Laws.{AreInPlace}
-use Rattle.ob_tables.specs.declared.engine.Engine.{Engine}
-use Rattle.ob_verdict.specs.declared.outcome.Outcome.{Outcome}
-use Rattle.ob_verdict.specs.declared.outcome.Outcome.TheVariants.{Created, Inserted, Changed, Deleted, Dropped, Rows, Refused}
-use Rattle.ob_tables.specs.Agreeing.{Agrees, world_of, count_of}
-use Rattle.ob_tables.specs.Running.{HasNoRows, IsSilent, RefusedEarly, SinkStops, is_fault, stops_access}
-use Rattle.ob_verdict.specs.Outcomes.{refusal_now, outcome_of, by_fault, Emits, EmitsUntilFault}
-use Rattle.ob_tables.specs.Serving.{StopsEmission, Serves, ServesSilently, Stopped}
+use Rattle.ob_verdict.specs.declared.outcome.Outcome.TheVariants.{Inserted, Rows}
+use Rattle.ob_tables.specs.Running.{RefusedEarly, SinkStops, stops_access}
+use Rattle.ob_verdict.specs.Outcomes.{Emits, EmitsUntilFault}
+use Rattle.ob_tables.specs.Serving.{StopsEmission, Stopped}
 use Rattle.ob_tables.proofs.MemoryLemmas.{lacks_less}
-use Rattle.ob_tables.specs.Telling.{AreHeld, Represents, answer_labels}
+use Rattle.ob_tables.specs.Telling.{Represents}
 use Rattle.ob_tables.proofs.LawfulLemmas.{lawful_now, lawful_refused}
 use Rattle.ob_tables.proofs.RunLemmas.{of_other, ran_refused}
 use Rattle.ob_tables.proofs.SealLemmas.{keeps_none}
@@ -47,22 +30,16 @@ serves_same {R} {E} state grew cut faults stmt old s t out_old out_new r q new s
 -- ---- nothing is emitted
 -- an answer that is no rows
 abbrev pub IsBare : Answer → Type 0
-IsBare A.Done = Unit {0}
-IsBare (A.Changed n) = Unit {0}
 IsBare (A.Rows rows) = ⊥
-IsBare (A.Refused r) = Unit {0}
+IsBare other = Unit {0}
 
 pub bare_prints : (labels : List (List ℕ)) (a : Answer) → IsBare a → Prints labels a []
-bare_prints labels A.Done bare = refl
-bare_prints labels (A.Changed n) bare = refl
 bare_prints labels (A.Rows rows) bare = absurd bare
-bare_prints labels (A.Refused r) bare = refl
+bare_prints labels other bare = refl
 
 bare_unfinished : (labels : List (List ℕ)) (a : Answer) → IsBare a → Unfinished labels a []
-bare_unfinished labels A.Done bare = refl
-bare_unfinished labels (A.Changed n) bare = refl
 bare_unfinished labels (A.Rows rows) bare = absurd bare
-bare_unfinished labels (A.Refused r) bare = refl
+bare_unfinished labels other bare = refl
 
 -- what is no rows of an accepted statement is none of a refused one
 bare_answered : (r : Option Refusal) (a : Answer) → IsBare a → IsBare (answered r a)
@@ -75,32 +52,18 @@ either false cut whole off is = is
 
 -- so is what an answer emits that is no rows, whatever its labels are
 none_until : (stmt : Stmt) (labels : List (List ℕ)) → EmitsUntilFault stmt labels []
-none_until (Create table columns capacity shape) labels = refl
-none_until (Insert table columns values) labels = refl
-none_until (Update table sets cond) labels = refl
-none_until (Delete table cond) labels = refl
-none_until (DropTable table) labels = refl
 none_until (RowsStmt select) labels = record { rows = []; are_rows = refl; is = inl refl }
-none_until (TotalsStmt select) labels = refl
+none_until other labels = refl
 
 pub silent_emits : (stmt : Stmt) (labels : List (List ℕ)) (outcome : Outcome) → HasNoRows outcome → Emits stmt labels outcome []
 silent_emits stmt labels (Refused r) silent = either (is_store_fault r) _ _ (none_until stmt labels) refl
-silent_emits stmt labels Created silent = refl
-silent_emits stmt labels Inserted silent = refl
-silent_emits stmt labels (Changed n) silent = refl
-silent_emits stmt labels (Deleted n) silent = refl
-silent_emits stmt labels Dropped silent = refl
 silent_emits stmt labels (Rows k) silent = absurd silent
+silent_emits stmt labels other silent = refl
 
 -- an emitter did not fail where nothing was emitted
 silent_sink : (r : Result Outcome RunStop) (n : ℕ) → IsSilent r → SinkStops r n n
-silent_sink (Ok outcome) n silent = refl
 silent_sink (Err Stops.SinkFault) n silent = absurd silent
-silent_sink (Err (Stops.Tampered region place)) n silent = refl
-silent_sink (Err Stops.NoMemory) n silent = refl
-silent_sink (Err Stops.StoreFault) n silent = refl
-silent_sink (Err Stops.StashFull) n silent = refl
-silent_sink (Err Stops.KeeperFault) n silent = refl
+silent_sink other n silent = refl
 
 silent_meets : {P : Type 0} (r : Result Outcome RunStop) → IsSilent r → r ≡ Err Stops.SinkFault → P
 silent_meets r silent is = absurd (subst (λ (x : Result Outcome RunStop). IsSilent x) is silent)

@@ -1,22 +1,10 @@
 -- What waits in the store is discarded.
-use Rattle.std.proofs.Common.{◌≡◌, ◌⊎◌, inl, inr, ℕ, ◌+◌, ◌<◌, ◌≤◌, Bool, List, [], ◌++◌, length, Option, Some, None, refl, sym, ◌∙◌, ap, subst, arith}
-use Rattle.std.specs.Prelude.{slice_get}
-use Rattle.ob_base.specs.declared.access.Access.{Access}
+use Rattle.ob_tables.proofs.Words.{Access, Agrees, ap, arith, Bool, drop_script, Engine, Index, inl, inr, length, List, makes, None, Option, others_of, Ready, refl, RevState, Seals, seals_join, slice_get, Some, StoreState, subst, sym, Tables, Went, went_join, World, world_of, ℕ, [], ◌++◌, ◌+◌, ◌<◌, ◌∙◌, ◌≡◌, ◌≤◌, ◌⊎◌}
 use Rattle.ob_base.specs.declared.schema.Table.{Table}
-use Rattle.ob_base.specs.Accesses.{drop_script, makes}
 use Rattle.ob_base.proofs.AccessLemmas.{makes-append}
-use Rattle.ob_mean.specs.Verdict.{Tables}
-use Rattle.ob_oram.specs.declared.index.Index.{Index}
 use Rattle.ob_store.specs.Calls.{IsLive}
-use Rattle.ob_store.specs.State.{StoreState}
-use Rattle.ob_vault.specs.State.{RevState, World}
-use Rattle.ob_vault.specs.Calls.{Seals, Went}
-use Rattle.ob_vault.specs.Tied.{Ready}
-use Rattle.ob_vault.proofs.Runs.{seals_join, went_join, went_wider}
-use Rattle.ob_tables.specs.declared.engine.Engine.{Engine}
-use Rattle.ob_tables.specs.Agreeing.{Agrees, world_of}
+use Rattle.ob_vault.proofs.Runs.{went_wider}
 use Rattle.ob_tables.specs.Closing.{DropsClosing}
-use Rattle.ob_tables.specs.Engines.{others_of}
 use Rattle.ob_tables.specs.Saving.{SettlesEngine, Waits, WaitsAt}
 use Rattle.ob_tables.specs.Telling.{Represents}
 use Rattle.ob_tables.proofs.ClosedLemmas.{length-drop_script}

@@ -1,53 +1,15 @@
 -- A statement that emits nothing and of which nothing is counted, by how it ended.
-use Rattle.ob_tables.specs.Engines.{others_of}
-use Rattle.std.proofs.Common.{◌≡◌, inl, inr, ◌-◌, ℕ, Bool, true, false, List, [], ◌∷◌, ◌++◌, length, Ok, Err, Result, None, Global, refl, sym, ◌∙◌, ap, subst, arith, append-nil}
-use Rattle.std.specs.Prelude.{Some, slice_get}
-use Rattle.ob_base.specs.declared.access.Access.{Access}
-use Rattle.ob_tables.specs.declared.stop.RunStop.{RunStop}
+use Rattle.ob_tables.proofs.Words.{Access, accessed, Agrees, answer_of, ap, append-nil, AreDraws, AreHeld, AreInPlace, arith, Bool, Columns, count_of, Cut, Did, drawn_by, DrawPlace, Draws, End, Engine, Err, false, Global, HasNoRows, Index, inl, inr, is_access, is_stop, IsSilent, KeepsSealed, length, List, make_at, MakesFlat, Means, None, Ok, one, OpErr, others_of, Outcome, outcome_of, PassCut, Public, RanStatement, ReadsTrue, refl, refusal_now, Result, RevState, RoomState, RunStop, Seals, seen, selects_rows, ServesSilently, settle, settle_all, skeleton, slice_get, Some, Stmt, StoreState, subst, sym, Tables, true, UsesRoom, Vault, Vec, verdict, went_rests, Whole, whole_run, World, world_of, ℕ, [], ◌++◌, ◌-◌, ◌∙◌, ◌∷◌, ◌≡◌}
 use Rattle.ob_tables.specs.declared.stop.RunStop.TheVariants as Stops
 use Rattle.ob_base.specs.declared.schema.Table.{Table}
-use Rattle.ob_base.specs.declared.seen.End.{End}
-use Rattle.ob_base.specs.declared.seen.End.TheVariants.{Whole, Cut}
-use Rattle.ob_base.specs.Accesses.{make_at}
-use Rattle.ob_base.specs.Schemas.{Columns}
-use Rattle.ob_room.specs.RoomState.{RoomState}
-use Rattle.ob_store.specs.State.{StoreState}
-use Rattle.ob_select.specs.Selecting.{UsesRoom}
 use Rattle.ob_store.specs.Calls.{ChangesNothing}
-use Rattle.ob_store.specs.Runs.{Did}
-use Rattle.ob_vault.specs.State.{RevState, World}
-use Rattle.ob_vault.specs.declared.vault.Vault.{Vault}
 use Rattle.ob_vault.specs.Places.{at}
-use Rattle.ob_vault.specs.Calls.{Seals, one}
-use Rattle.ob_vault.proofs.WordLemmas.{went_rests}
-use Rattle.ob_flat.specs.declared.fault.OpErr.{OpErr}
 use Rattle.ob_flat.specs.declared.fault.OpErr.TheVariants as OpErrs
 use Rattle.ob_flat.specs.Flats.{Accepts}
-use Rattle.ob_flat.specs.Passes.{PassCut}
 use Rattle.ob_flat.proofs.Runs.{pass_after}
-use Rattle.ob_script.specs.Saved.{whole_run}
-use Rattle.ob_base.specs.declared.config.Public.{Public}
-use Rattle.ob_sql.specs.declared.stmt.Stmt.{Stmt}
-use Rattle.ob_sql.specs.Skeleton.{skeleton}
-use Rattle.ob_mean.proofs.FlatLemmas.{MakesFlat}
-use Rattle.ob_mean.specs.Lawful.{selects_rows}
-use Rattle.ob_mean.specs.Replay.{drawn_by, is_access}
-use Rattle.ob_mean.specs.Batches.{settle_all}
-use Rattle.ob_mean.specs.Settle.{settle}
-use Rattle.ob_mean.specs.Verdict.{Draws, Tables, accessed, verdict, seen, ended as seen_to}
-use Rattle.ob_oram.specs.declared.index.Index.{Index}
-use Rattle.ob_seal.specs.Draws.{DrawPlace}
-use Rattle.std.specs.declared.vec.Vec.{Vec}
-use Rattle.ob_verdict.specs.Laws.{AreInPlace}
+use Rattle.ob_mean.specs.Verdict.{ended as seen_to}
 use Rattle.ob_verdict.proofs.InPlaceProof.{keeps_in_place}
 use Rattle.ob_verdict.proofs.SeenProof.{shows_kind_alone}
-use Rattle.ob_tables.specs.declared.engine.Engine.{Engine}
-use Rattle.ob_verdict.specs.declared.outcome.Outcome.{Outcome}
-use Rattle.ob_tables.specs.Agreeing.{Agrees, AreDraws, world_of, count_of}
-use Rattle.ob_tables.specs.Running.{RanStatement, HasNoRows, IsSilent, answer_of, is_stop}
-use Rattle.ob_verdict.specs.Outcomes.{refusal_now, outcome_of}
-use Rattle.ob_tables.specs.Serving.{Means, ServesSilently}
-use Rattle.ob_tables.specs.Telling.{AreHeld, KeepsSealed, ReadsTrue}
 use Rattle.ob_tables.proofs.BegunLemmas.{begun_plain}
 use Rattle.ob_tables.proofs.HeldLemmas.{held_kept, held_plain}
 use Rattle.ob_tables.proofs.PlainLemmas.{none_drawn, none_full, none_stops}

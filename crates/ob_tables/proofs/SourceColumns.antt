@@ -1,37 +1,21 @@
 -- The columns of the source of a SELECT of rows, and the labels of those that it prints.
-use Rattle.std.proofs.Common.{◌≡◌, zero, ◌≤◌, ℕ, suc, Bool, true, false, cond, List, [], ◌∷◌, ◌++◌, map, length, Option, Some, None, refl, sym, ◌∙◌, ap, subst, arith, append_assoc, length-append}
-use Rattle.std.specs.Prelude.{bytes_eq, not, ◌||◌, slice_get, unwrap_or}
+use Rattle.ob_tables.proofs.Words.{Agrees, allowed, answer_labels, ap, append_assoc, arith, Bool, bytes_eq, bytes_eq-Decides, Column, Columns, columns_at, cond, count_of, Engine, false, has_table, Heading, heading_at, headings_of, is_late, Join, length, length-append, length-map, limits_of, List, map, None, not, Option, option_map_or, printed_places, refl, refusal_now, RevState, slice_get, Some, Source, StoreState, subst, suc, sym, tabulate, true, zero, ℕ, [], ◌++◌, ◌||◌, ◌∙◌, ◌∷◌, ◌≡◌, ◌≤◌}
+use Rattle.std.specs.Prelude.{unwrap_or}
 use Rattle.std.specs.List.{All, list_any}
-use Rattle.std.specs.Option.{option_map_or}
-use Rattle.std.proofs.lemmas.Slice.Eq.{bytes_eq-Decides}
-use Rattle.ob_base.specs.declared.schema.Column.{Column}
-use Rattle.ob_base.specs.declared.schema.Heading.{Heading}
 use Rattle.ob_base.specs.declared.schema.Table.{Table}
 use Rattle.ob_base.specs.declared.skeleton.ColumnName.{ColumnName}
-use Rattle.ob_base.specs.declared.skeleton.Source.TheVariants.{Table as OneTable, Join}
+use Rattle.ob_base.specs.declared.skeleton.Source.TheVariants.{Table as OneTable}
 use Rattle.ob_base.specs.Labels.{column_label}
-use Rattle.ob_base.specs.Lists.{places_from, places_of, tabulate}
-use Rattle.ob_base.specs.Schemas.{Columns}
-use Rattle.ob_base.specs.Stored.{has_table, headings_of, heading_at}
+use Rattle.ob_base.specs.Lists.{places_from, places_of}
 use Rattle.ob_emit.specs.Emitting.{is_joined, label_at, labels_of}
-use Rattle.ob_names.specs.Names.{columns_at, place_of, source_columns}
+use Rattle.ob_names.specs.Names.{place_of, source_columns}
 use Rattle.ob_mean.specs.Prints.{is_join, rows_labels, label_at as named_label}
-use Rattle.ob_mean.specs.Refusals.{joins_itself, source_tables, limits_of}
-use Rattle.ob_mean.specs.Step.{printed_places}
+use Rattle.ob_mean.specs.Refusals.{joins_itself, source_tables}
 use Rattle.ob_mean.proofs.CondLemmas.{any_append}
-use Rattle.ob_mean.specs.Verdict.{is_late}
 use Rattle.ob_sql.specs.declared.stmt.SelectRows.{SelectRows}
 use Rattle.ob_reopen.specs.Limits.{IsStored}
-use Rattle.ob_base.specs.declared.skeleton.Source.{Source}
-use Rattle.ob_store.specs.State.{StoreState}
-use Rattle.ob_vault.specs.State.{RevState}
-use Rattle.ob_mean.proofs.EarlyLemmas.{Allowed, allowed}
+use Rattle.ob_mean.proofs.EarlyLemmas.{Allowed}
 use Rattle.ob_sql.specs.declared.stmt.Stmt.TheVariants.{SelectRows as RowsStmt}
-use Rattle.ob_tables.specs.declared.engine.Engine.{Engine}
-use Rattle.ob_tables.specs.Agreeing.{Agrees, count_of}
-use Rattle.ob_verdict.specs.Outcomes.{refusal_now}
-use Rattle.ob_tables.specs.Telling.{answer_labels}
-use Rattle.std.proofs.lemmas.List.{length-map}
 use Rattle.ob_select.proofs.PlaceLemmas.{all_places}
 
 -- ---- labels

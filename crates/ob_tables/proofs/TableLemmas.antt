@@ -1,26 +1,12 @@
 -- The tables of an engine, after a pass.
-use Rattle.ob_oram.proofs.Lasting.{index_kept}
-use Rattle.ob_oram.specs.declared.index.Index.{Index}
-use Rattle.std.proofs.Common.{◌≡◌, ◌⊎◌, inl, inr, ◌<◌, ◌≤◌, ℕ, zero, suc, Bool, true, false, if◌then◌else◌, cond, List, [], ◌∷◌, ◌++◌, length, get_or, Option, Some, None, refl, sym, ◌∙◌, ap, subst, arith}
-use Rattle.std.specs.Prelude.{map, slice_get, slice_set, bytes_eq}
-use Rattle.std.specs.Option.{option_map}
-use Rattle.std.proofs.lemmas.List.{length-append, length-map}
+use Rattle.ob_tables.proofs.Words.{ap, AreFlat, AreTables, arith, Bool, by_shape, bytes_eq, bytes_eq-Decides, cond, false, flat_of, get_or, headings_of, if◌then◌else◌, Index, index_kept, Indexed, inl, inr, IsAt, IsBeside, IsFlat, IsIndexIn, IsIndexOfTable, IsStashOf, IsTable, IsTableRegion, IsTreeOf, Lasts, length, length-append, length-map, List, map, None, none, one, Option, option_map, others_of, Ready, refl, Region, slice_get, slice_set, Some, Stored, stored_at, stored_regions, subst, suc, sym, true, two, World, zero, ℕ, [], ◌++◌, ◌<◌, ◌∙◌, ◌∷◌, ◌≡◌, ◌≤◌, ◌⊎◌}
 use Rattle.std.proofs.lemmas.Option.{slice_get-map}
-use Rattle.std.proofs.lemmas.Slice.Eq.{bytes_eq-Decides}
 use Rattle.ob_base.specs.declared.schema.Shape.{Shape}
-use Rattle.ob_base.specs.declared.schema.Shape.TheVariants.{Flat as FlatShape, Indexed}
+use Rattle.ob_base.specs.declared.schema.Shape.TheVariants.{Flat as FlatShape}
 use Rattle.ob_base.specs.declared.schema.Table.{Table}
-use Rattle.ob_base.specs.Indexes.{by_shape}
-use Rattle.ob_base.specs.Stored.{Stored, headings_of, stored_at, stored_regions}
-use Rattle.ob_mean.specs.Flats.{AreFlat}
 use Rattle.ob_script.specs.Tables.{moved}
-use Rattle.ob_vault.specs.declared.region.Region.{Region}
-use Rattle.ob_vault.specs.State.{World}
-use Rattle.ob_vault.specs.Tied.{Ready}
-use Rattle.ob_vault.specs.Calls.{Lasts, none, one, two}
 use Rattle.ob_flat.specs.declared.flat.Flat.{Flat}
-use Rattle.ob_flat.specs.Flats.{IsFlat}
-use Rattle.ob_tables.specs.Engines.{flat_of, IsAt, IsTable, IsTableRegion, IsBeside, AreTables, others_of, IsIndexAt, IsIndexIn, IsIndexOfTable, IsStashOf, IsTreeOf}
+use Rattle.ob_tables.specs.Engines.{IsIndexAt}
 use Rattle.ob_reopen.proofs.Lists.{got_last}
 
 pub no_entry : {A : Type 0} (xs : List A) (i : ℕ) (x : A) → xs ≡ [] → slice_get xs i ≡ Some x → ⊥

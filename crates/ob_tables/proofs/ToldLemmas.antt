@@ -1,41 +1,18 @@
 -- What a statement did is what it means.
-use Rattle.std.proofs.Common.{◌≡◌, ◌⊎◌, inl, inr, ℕ, Result, Bool, true, false, List, Option, Some, None, Ok, [], refl, sym, ◌∙◌, ap, subst}
-use Rattle.std.proofs.Common.{◌-◌, ◌^◌, min, arith}
-use Rattle.std.proofs.lemmas.Bool.{cases_lt, le-leb, lt-leb}
-use Rattle.std.specs.Prelude.{◌<◌, nat_le, nat_lt, ⊤, ◌∷◌}
-use Rattle.ob_base.specs.declared.config.Public.{Public}
-use Rattle.ob_base.specs.declared.refusal.Refusal.{Refusal}
+use Rattle.ob_tables.proofs.Words.{allowed, answer_of, ap, AreHeld, arith, Bool, by_fault, cases_lt, Cut, Draws, early_refusal, End, false, followed, Heading, headings, headings_of, Index, inl, inr, is_access, is_fault, is_late, is_store_fault, IsSilent, limits_of, List, nat_lt, None, Ok, OpErr, Option, Outcome, Public, refl, Refusal, refusal_now, Refused, refused_end, Result, RunStop, Seen, seen, Skeleton, skeleton, Some, Static, Stmt, subst, sym, Tables, true, Whole, World, ℕ, [], ◌-◌, ◌<◌, ◌^◌, ◌∙◌, ◌∷◌, ◌≡◌, ◌⊎◌}
+use Rattle.std.proofs.Common.{min}
+use Rattle.std.proofs.lemmas.Bool.{le-leb, lt-leb}
+use Rattle.std.specs.Prelude.{nat_le, ⊤}
 use Rattle.ob_base.specs.declared.refusal.Refusal.TheVariants.{NoTable, NameTaken, NoColumn, WrongType, ValueRange, Limit, KeyRule, JoinKey, NeedsKey}
-use Rattle.ob_tables.specs.declared.stop.RunStop.{RunStop}
-use Rattle.ob_base.specs.declared.schema.Heading.{Heading}
-use Rattle.ob_base.specs.declared.seen.Seen.{Seen}
-use Rattle.ob_base.specs.declared.seen.End.{End}
-use Rattle.ob_base.specs.declared.seen.End.TheVariants.{Static, Whole, Cut}
-use Rattle.ob_base.specs.declared.skeleton.Skeleton.{Skeleton}
-use Rattle.ob_base.specs.Stored.{headings}
-use Rattle.ob_vault.specs.State.{World}
-use Rattle.ob_flat.specs.declared.fault.OpErr.{OpErr}
 use Rattle.ob_flat.specs.declared.fault.OpErr.TheVariants as OpErrs
-use Rattle.ob_sql.specs.declared.stmt.Stmt.{Stmt}
-use Rattle.ob_base.specs.Stored.{headings_of}
-use Rattle.ob_mean.specs.Refusals.{first_holding, early_conditions, early_refusal, limits_of}
-use Rattle.ob_mean.specs.Step.{answered, followed}
+use Rattle.ob_mean.specs.Refusals.{first_holding, early_conditions}
+use Rattle.ob_mean.specs.Step.{answered}
 use Rattle.ob_mean.proofs.VerdictLemmas.{seen_flat}
-use Rattle.ob_mean.specs.Replay.{is_access}
-use Rattle.ob_oram.specs.declared.index.Index.{Index}
-use Rattle.ob_sql.specs.Skeleton.{skeleton}
-use Rattle.ob_mean.proofs.EarlyLemmas.{allowed}
 use Rattle.ob_mean.specs.Replay.{done_of, cut_at, count_end, walk_end}
-use Rattle.ob_mean.specs.Verdict.{Draws, Tables, is_late, seen, seen_started, ended as seen_to}
+use Rattle.ob_mean.specs.Verdict.{seen_started, ended as seen_to}
 use Rattle.ob_flat.specs.declared.flat.Flat.{Flat}
 use Rattle.ob_flat.specs.Words.{TamperedIn}
-use Rattle.ob_verdict.specs.declared.outcome.Outcome.{Outcome}
-use Rattle.ob_verdict.specs.declared.outcome.Outcome.TheVariants.{Refused}
-use Rattle.ob_tables.specs.Refusals.{refused_end}
-use Rattle.ob_base.specs.Refusals.{is_store_fault}
-use Rattle.ob_tables.specs.Running.{answer_of, is_fault, RefusedEarly, IsSilent}
-use Rattle.ob_verdict.specs.Outcomes.{refusal_now, by_fault}
-use Rattle.ob_tables.specs.Telling.{AreHeld}
+use Rattle.ob_tables.specs.Running.{RefusedEarly}
 use Rattle.ob_tables.proofs.HeldLemmas.{held_headings, held_plain}
 use Rattle.ob_tables.proofs.RunLemmas.{of_other, IsAnswered, IsEarly, early_few}
 use Rattle.ob_select.proofs.SelectHeld.{held_empty}
@@ -88,10 +65,8 @@ started_cut now n is here = let ends : Cut n ≡ Static = sym (ap (λ (x : Seen)
 
 -- the block was not refused
 abbrev pub IsFault : OpErr → Type 0
-IsFault OpErrs.Failed = Unit {0}
 IsFault (OpErrs.Tampered q x) = ⊥
-IsFault OpErrs.Sink = Unit {0}
-IsFault OpErrs.NoMemory = Unit {0}
+IsFault other = Unit {0}
 
 -- an error that the store or want of memory made
 pub fault_made : (e : OpErr) → (e ≡ OpErrs.Failed) ⊎ (e ≡ OpErrs.NoMemory) → IsFault e

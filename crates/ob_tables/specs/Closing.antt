@@ -2,7 +2,7 @@
 use Rattle.std.specs.Prelude.{◌≡◌, ◌+◌, ℕ, Bool, true, false, IsTrue, List, ◌++◌, Option, Some, Result, IfOk, IfErr, length}
 use Rattle.ob_base.specs.Accesses.{drop_script, writes}
 use Rattle.ob_base.specs.declared.access.Access.{Access}
-use Rattle.ob_base.specs.declared.mark.Mark.{Mark}
+use Rattle.ob_reopen.specs.declared.mark.Mark.{Mark}
 use Rattle.ob_tables.specs.Agreeing.{engine_keys, engine_start, opened_from, public_of, world_of}
 use Rattle.ob_reopen.specs.Resting.{AcceptsClosings, Rests, by_name}
 use Rattle.ob_select.specs.Selecting.{AcceptsRows}

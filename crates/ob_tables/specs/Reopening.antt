@@ -1,8 +1,8 @@
 -- What opening an engine does, from what rests in a store.
 use Rattle.std.specs.Prelude.{◌≡◌, ◌⊎◌, ◌<◌, ◌≤◌, ℕ, Bool, false, IsTrue, List, [], None, Some, Result, IfOk, IfErr, MatchResult}
 use Rattle.ob_base.specs.declared.config.Config.{Config}
-use Rattle.ob_base.specs.declared.mark.Mark.{Mark}
-use Rattle.ob_base.specs.declared.mark.Mark.TheVariants.{Fresh, InUse, Closed, Begun, Saved}
+use Rattle.ob_reopen.specs.declared.mark.Mark.{Mark}
+use Rattle.ob_reopen.specs.declared.mark.Mark.TheVariants.{Fresh, InUse, Closed, Begun, Saved}
 use Rattle.ob_tables.specs.Agreeing.{Agrees, AreDraws, engine_keys, engine_start, first_draws, has_ended, high_of, indexes_of, opened_from, public_of, replaced_of, rows_of, world_of}
 use Rattle.ob_reopen.specs.Resting.{AcceptsClosings, Rests}
 use Rattle.ob_select.specs.Selecting.{AcceptsRows}
@@ -30,7 +30,7 @@ IsClosed (Closed region blocks number of) pack closing =
     × (closing ≡ record { region = region; blocks = blocks; number = number; pack = of })
     × IsMarked closing
 IsClosed Begun pack closing = ⊥
-IsClosed (Saved region blocks number of salt) pack closing = ⊥
+IsClosed (Saved region blocks number of salt check) pack closing = ⊥
 
 -- an engine was opened, whatever the store gave
 pub record IsOpened {R : Type 0} (state : R → RevState) (config : Config) (keys : KeySet)

@@ -3,8 +3,8 @@ use Rattle.std.specs.Prelude.{◌≡◌, ◌≢◌, ◌⊎◌, ◌<◌, ◌≤�
 use Rattle.ob_base.specs.Accesses.{drop_script, make_at}
 use Rattle.ob_base.specs.declared.access.Access.{Access}
 use Rattle.ob_base.specs.declared.config.Config.{Config}
-use Rattle.ob_base.specs.declared.mark.Mark.{Mark}
-use Rattle.ob_base.specs.declared.mark.Mark.TheVariants.{Fresh, InUse, Closed, Begun, Saved}
+use Rattle.ob_reopen.specs.declared.mark.Mark.{Mark}
+use Rattle.ob_reopen.specs.declared.mark.Mark.TheVariants.{Fresh, InUse, Closed, Begun, Saved}
 use Rattle.ob_base.specs.declared.schema.Table.{Table}
 use Rattle.ob_mean.specs.Verdict.{Tables}
 use Rattle.ob_reopen.specs.Closed.{NotClosed, is_used_up}
@@ -58,12 +58,13 @@ pub record Waits {R : Type 0} (state : R → RevState) (left : Option ℕ) (e : 
 abbrev pub save_script : {R : Type 0} → Engine R → StoreState → List Access
 save_script e s = write_script (next_closing e s)
 
--- the closing was written, and the mark names it with the run's salt; the closing before it waits for being discarded
+-- the closing was written, and the mark names it with the run's salt and its check value; the closing before it waits for being discarded
 pub record IsSaved {R : Type 0} (state : R → RevState) (mark : Mark) (e : Engine R) (s : StoreState)
     (saved : Engine R) (t : StoreState) : Type 0 where
   pub salt : List ℕ
   pub of : (pair_of (engine_keys e) (next_closing e s).region).salt ≡ Some salt
   pub is : mark ≡ saved_mark (next_closing e s) salt
+      (pair_of (engine_keys e) (next_closing e s).region).check
   pub within : IsMark mark
   pub did : Did (save_script e s) s t
   pub agrees : Agrees state saved t
@@ -141,7 +142,7 @@ NamesClosing (Closed region blocks number of) pack closed closing =
     (of ≡ pack) × (closed ≡ None)
     × (closing ≡ record { region = region; blocks = blocks; number = number; pack = of })
     × IsMarked closing
-NamesClosing (Saved region blocks number of salt) pack closed closing =
+NamesClosing (Saved region blocks number of salt check) pack closed closing =
     (of ≡ pack) × (closed ≡ Some salt) × AreSaltBytes salt
     × (closing ≡ record { region = region; blocks = blocks; number = number; pack = of })
     × IsMarked closing

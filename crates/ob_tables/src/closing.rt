@@ -10,8 +10,7 @@ ghost use Rattle.ob_vault.specs.Tied.{Lives, Ready};
 ghost use Rattle.ob_reopen.specs.Closings.{mark_of};
 
 use crate::engine::{Engine, LATE};
-use ob_base::Mark;
-use ob_reopen::{CloseErr, Closing, list_tables, write_closing};
+use ob_reopen::{CloseErr, Closing, Mark, list_tables, write_closing};
 use ob_store::BlockStore;
 use ob_vault::{Revisions, Vault};
 

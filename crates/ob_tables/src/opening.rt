@@ -7,8 +7,8 @@ ghost use Rattle.ob_reopen.specs.declared.listed.Listed.{Listed as Entry};
 ghost use Rattle.ob_reopen.specs.Reopened.{opened_public};
 
 use crate::engine::{Engine, ROW_WIDTH, seen_to_end};
-use ob_base::{Config, End, Items, Mark, NoMemory, Public, Table};
-use ob_reopen::{Closing, Listed, OpenErr, read_closing, reopen_tables};
+use ob_base::{Config, End, Items, NoMemory, Public, Table};
+use ob_reopen::{Closing, Listed, Mark, OpenErr, read_closing, reopen_tables};
 use ob_room::Room;
 use ob_seal::{Draws, Keys};
 use ob_store::Lasting;

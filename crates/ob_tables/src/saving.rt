@@ -24,11 +24,11 @@ ghost use Rattle.ob_vault.specs.VaultCalls.{Forgets};
 use crate::engine::{Engine, ROW_WIDTH, seen_to_end};
 use crate::opening::{public_at, tables_of};
 use crate::tables::find_table;
-use ob_base::{Config, End, Mark, Name, NoMemory, Table};
+use ob_base::{Config, End, Name, NoMemory, Table};
 use ob_mutate::Former;
 use ob_reopen::{
-    CloseErr, Closing, Listed, OpenErr, list_tables, read_closing, reopen_tables, salted_regions,
-    write_closing,
+    CloseErr, Closing, Listed, Mark, OpenErr, list_tables, read_closing, reopen_tables,
+    salted_regions, write_closing,
 };
 use ob_room::Room;
 use ob_seal::{Draws, Keys};
@@ -37,10 +37,10 @@ use ob_store::{BlockStore, Lasting};
 use ob_vault::{Revisions, Vault};
 use std::alloc::Global;
 
-// The mark that names a closing of a run with this salt.
-fn mark_of(closing: Closing, salt: [u8; 16]) -> Mark
-    ensures named { result ≡ saved_mark closing salt }
-    ensures bytes { AreSaltBytes salt }
+// The mark that names a closing of a run with this salt, and this check value.
+fn mark_of(closing: Closing, salt: [u8; 16], check: [u8; 16]) -> Mark
+    ensures named { result ≡ saved_mark closing salt check }
+    ensures bytes { AreSaltBytes salt × AreSaltBytes check }
 {
     Mark::Saved {
         region: closing.region,
@@ -48,6 +48,7 @@ fn mark_of(closing: Closing, salt: [u8; 16]) -> Mark
         number: closing.number,
         pack: closing.pack,
         salt,
+        check,
     }
 }
 
@@ -80,6 +81,7 @@ fn closing_of(mark: &Mark) -> (Closing, Option<[u8; 16]>)
             number,
             pack,
             salt,
+            ..
         } => {
             let closing = Closing {
                 region,
@@ -263,7 +265,7 @@ impl<R: Revisions> Engine<R> {
     }
 
     /// Writes a closing, a region that lists the tables by their names, and gives the mark that names it with the salt of
-    /// this run: from this mark the next run opens them again. No other region is asked for: the closing before it, and the
+    /// this run, and its check value: from this mark the next run opens them again. No other region is asked for: the closing before it, and the
     /// region in which a table lay before, stay in the store until `settle`.
     ///
     /// `Failed` where the store failed, and also, with nothing asked, where the closing's region or its first write would
@@ -297,9 +299,10 @@ impl<R: Revisions> Engine<R> {
                 let Some(salt) = self.vault.salt_of(written.region) else {
                     unreachable!()
                 };
+                let check = self.vault.check_of(written.region);
                 self.list_in(written.region);
                 self.ended = false;
-                Ok(mark_of(written, salt))
+                Ok(mark_of(written, salt, check))
             }
             Err(e) => Err(e),
         }

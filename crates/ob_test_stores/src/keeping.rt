@@ -36,6 +36,8 @@ impl KeepingStore {
 impl BlockStore for KeepingStore {
     ghost state = { λ s. ⟦<MemStore as BlockStore>⟧.state s.inner };
 
+    ghost given_up = { λ s. ⟦<MemStore as BlockStore>⟧.given_up s.inner };
+
     ghost keeps_live = { λ s r shape told is. keeps_live-law s.inner r shape told is };
 
     ghost keeps_within = { λ s r region is. keeps_within-law s.inner r region is };
@@ -69,6 +71,10 @@ impl BlockStore for KeepingStore {
 
     fn discard(&mut self, region: u64) -> Result<(), Failed> {
         self.inner.discard(region)
+    }
+
+    fn give_up(&mut self, from: u64) {
+        self.inner.give_up(from);
     }
 
     fn let_go(&mut self) {

@@ -49,6 +49,8 @@ impl BlockStore for ForgingStore {
       disturbed = None;
     } };
 
+    ghost given_up = { λ s. ⟦<MemStore as BlockStore>⟧.given_up s.inner };
+
     ghost keeps_live = { λ s r shape told is. absurd (cc told) };
 
     ghost keeps_within = { λ s r region is. absurd (cc is) };
@@ -93,6 +95,10 @@ impl BlockStore for ForgingStore {
 
     fn discard(&mut self, region: u64) -> Result<(), Failed> {
         self.inner.discard(region)
+    }
+
+    fn give_up(&mut self, from: u64) {
+        self.inner.give_up(from);
     }
 
     fn let_go(&mut self) {

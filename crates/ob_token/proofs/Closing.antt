@@ -172,10 +172,7 @@ lone_other a e = on (a == 40) M.Open _ refl (on (a == 41) M.Close _ refl (on (a 
 
 abbrev other_lexeme : Lexeme → Bool
 other_lexeme (L.Mark m) = other m
-other_lexeme (L.Name name) = true
-other_lexeme (L.Number n) = true
-other_lexeme L.Text = true
-other_lexeme L.Bad = true
+other_lexeme other = true
 
 named_other : (o : Option Mark) (w : List ℕ) → none_or_other o ≡ true → other_lexeme (named o w) ≡ true
 named_other (Some m) w e = e
@@ -194,19 +191,14 @@ run_other (b ∷ bs) = go (is_digit b) (all_digits (b ∷ bs)) (nat_le (length (
 -- ---- a piece, and what is behind it
 
 abbrev After : Option Lexeme → List ℕ → Type 0
-After None rest = Closed Plain rest
 After (Some L.Bad) rest = ⊤
 After (Some (L.Mark m)) rest = ((m ≡ M.Semicolon) × (rest ≡ [])) ⊎ ((other m ≡ true) × Closed Plain rest)
-After (Some (L.Name name)) rest = Closed Plain rest
-After (Some (L.Number n)) rest = Closed Plain rest
-After (Some L.Text) rest = Closed Plain rest
+After other rest = Closed Plain rest
 
 after_other : (x : Lexeme) (rest : List ℕ) → other_lexeme x ≡ true → Closed Plain rest → After (Some x) rest
 after_other (L.Mark m) rest e c = inr (e, c)
-after_other (L.Name name) rest e c = c
-after_other (L.Number n) rest e c = c
-after_other L.Text rest e c = c
 after_other L.Bad rest e c = tt
+after_other other rest e c = c
 
 no_second : (a n : ℕ) → (n == 62) ≡ false → (n == 61) ≡ false → pair_sign a n ≡ None
 no_second a n e f = go (a == 60) (a == 33) (a == 62) where
@@ -282,10 +274,8 @@ one_more (Some (L.Mark m)) from to end rest (inl (is, none)) more last =
     (here.0, subst (λ r. SemicolonsEndAt end (tokens_from 0 to r)) (sym none) here.1)
 one_more (Some (L.Mark m)) from to end rest (inr (not_one, c)) more last =
     (λ e. let both : true ≡ false = sym not_one ∙ ap other_lexeme e in absurd (cc both), more c)
-one_more (Some (L.Name name)) from to end rest c more last = (λ e. absurd (cc e), more c)
-one_more (Some (L.Number n)) from to end rest c more last = (λ e. absurd (cc e), more c)
-one_more (Some L.Text) from to end rest c more last = (λ e. absurd (cc e), more c)
 one_more (Some L.Bad) from to end rest a more last = (λ e. absurd (cc e), tt)
+one_more other from to end rest c more last = (λ e. absurd (cc e), more c)
 
 closes : (fuel at : ℕ) (bs : List ℕ) → length bs ≤ fuel → Closed Plain bs → SemicolonsEndAt (at + length bs) (tokens_from 0 at bs)
 closes fuel at [] le c = absurd c

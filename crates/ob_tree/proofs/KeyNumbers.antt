@@ -34,9 +34,6 @@ options_same (Some x) (Some y) h = ap Some (cell_same x y h)
 
 -- a cell with a number in range is that number
 numbered : (n : ℕ) (x y : Option Cell) → cell_number n x < n → cell_number n x ≡ cell_number n y → options_eq x y ≡ true
-numbered n None y low same = absurd (omega (arith, low))
-numbered n (Some (Text t)) y low same = absurd (omega (arith, low))
-numbered n (Some (Int (negsuc a))) y low same = absurd (omega (arith, low))
 numbered n (Some (Int (pos a))) None low same = absurd (omega (arith, low, same))
 numbered n (Some (Int (pos a))) (Some (Text t)) low same = absurd (omega (arith, low, same))
 numbered n (Some (Int (pos a))) (Some (Int (negsuc b))) low same = absurd (omega (arith, low, same))
@@ -48,6 +45,7 @@ numbered n (Some (Int (pos a))) (Some (Int (pos b))) low same =
     both true true low same = same
     both true false low same = absurd (omega (arith, low, same))
     both false t low same = absurd (omega (arith, low))
+numbered n other y low same = absurd (omega (arith, low))
 
 module _ (n i : ℕ) where
   abbrev key : Row → ℕ

@@ -1,7 +1,7 @@
 -- A vault that goes on under other keys, which are the same for each region that matters.
-use Rattle.std.proofs.Common.{◌≡◌, ◌≢◌, ◌≤◌, ◌-◌, ℕ, Bool, List, Some, None, length, take, ◌∙◌, ap}
+use Rattle.std.proofs.Common.{◌≡◌, ◌≢◌, ◌≤◌, ◌-◌, ℕ, Bool, List, Some, None, length, take, refl, ◌∙◌, ap}
 use Rattle.ob_store.specs.State.{Lie}
-use Rattle.ob_seal.specs.KeySet.{KeySet, pair_of}
+use Rattle.ob_seal.specs.KeySet.{AreAlike, KeySet}
 use Rattle.ob_seal.proofs.Agree.{sealed_agree, tag_agree}
 use Rattle.ob_vault.specs.State.{World}
 use Rattle.ob_vault.specs.Rekeying.{rekeyed}
@@ -24,10 +24,10 @@ module _ (keys : KeySet) (w : World) where
     laps = ready.laps;
   }
 
-  pub holds_rekeyed : (q x : ℕ) (rows : List ℕ) → pair_of w.vault.keys q ≡ pair_of keys q → Holds q x rows w → Holds q x rows (rekeyed keys w)
-  holds_rekeyed q x rows same holds = record { last = holds.last ∙ ap Some (sealed_agree w.vault.keys keys (at_of q x (w.vault.revs.number q x)) same rows) }
+  pub holds_rekeyed : (q x : ℕ) (rows : List ℕ) → AreAlike w.vault.keys keys q → Holds q x rows w → Holds q x rows (rekeyed keys w)
+  holds_rekeyed q x rows same holds = record { last = holds.last ∙ ap Some (sealed_agree w.vault.keys keys (at_of q x (w.vault.revs.number q x)) (same.each _ refl) rows) }
 
-  pub sealed_rekeyed : (good : ℕ → List ℕ → Bool) (scope : Scope) → ((q : ℕ) → scope.from ≤ q → w.store.live q ≢ None → pair_of w.vault.keys q ≡ pair_of keys q)
+  pub sealed_rekeyed : (good : ℕ → List ℕ → Bool) (scope : Scope) → ((q : ℕ) → scope.from ≤ q → w.store.live q ≢ None → AreAlike w.vault.keys keys q)
       → AllSealed good scope w → AllSealed good scope (rekeyed keys w)
   sealed_rekeyed good scope same all = record {
     all = λ q x block from lives last.
@@ -35,17 +35,17 @@ module _ (keys : KeySet) (w : World) where
         record {
           number = here.number;
           rows = here.rows;
-          is = here.is ∙ sealed_agree w.vault.keys keys (at_of q x here.number) (same q from lives) here.rows;
+          is = here.is ∙ sealed_agree w.vault.keys keys (at_of q x here.number) ((same q from lives).each _ refl) here.rows;
           went = here.went;
           newest = here.newest;
           fine = here.fine;
         };
   }
 
-  pub calm_rekeyed : ((lie : Lie) → w.store.lie ≡ Some lie → pair_of w.vault.keys lie.region ≡ pair_of keys lie.region) → Calm w → Calm (rekeyed keys w)
+  pub calm_rekeyed : ((lie : Lie) → w.store.lie ≡ Some lie → AreAlike w.vault.keys keys lie.region) → Calm w → Calm (rekeyed keys w)
   calm_rekeyed same calm = record {
     calm = λ lie told.
         let fits = calm.calm lie told in
-        record { tag = fits.tag ∙ tag_agree w.vault.keys keys (at_lie w.vault.start lie) (same lie told) (take (length lie.bytes - 32) lie.bytes) };
+        record { tag = fits.tag ∙ tag_agree w.vault.keys keys (at_lie w.vault.start lie) ((same lie told).each _ refl) (take (length lie.bytes - 32) lie.bytes) };
     within = calm.within;
   }

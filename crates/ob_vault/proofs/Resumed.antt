@@ -18,6 +18,7 @@ use Rattle.ob_vault.specs.declared.fault.VaultErr.{VaultErr}
 use Rattle.ob_vault.specs.declared.fault.VaultErr.TheVariants.{Failed, NoMemory}
 use Rattle.ob_vault.specs.Revs.{OtherRegions, Resumes as Numbered}
 use Rattle.ob_vault.specs.State.{Start, RevState, VaultState, World, from_earlier}
+use Rattle.std.specs.List.{list_any}
 use Rattle.ob_vault.specs.Numbers.{number_after, IsNumber, IsStart, WritesBehind}
 use Rattle.ob_vault.specs.Places.{given_from}
 use Rattle.ob_vault.specs.Tied.{InLaps, Ready, Written, Holds, Scope, SealedAt, AllSealed, Calm, at_of}
@@ -57,14 +58,15 @@ given_put found [] e q x = refl
 given_put found (f ∷ l) e q x = given_put (if (f.region == q) && ltb x f.blocks then f.first + x else found) l e q x
 
 -- where a vault keeps no region of an earlier run, and where it keeps one more
-abbrev pub kept_start : ℕ → ℕ → List Earlier → Start
-kept_start writes region l = record { writes = writes; region = region; given = λ q x. given_from 0 l q x }
+abbrev pub kept_start : ℕ → ℕ → (trees : List ℕ) → List Earlier → Start
+kept_start writes region trees l = record { writes = writes; region = region; given = λ q x. given_from 0 l q x; linked = λ q. list_any (λ r. r == q) trees }
 
-pub start_empty : (writes region : ℕ) (l : List Earlier) → l ≡ [] → kept_start writes region l ≡ from_earlier writes region
-start_empty writes region l none = ap (kept_start writes region) none
+pub start_empty : (writes region : ℕ) (trees : List ℕ) (l : List Earlier) → trees ≡ [] → l ≡ [] → kept_start writes region trees l ≡ from_earlier writes region
+start_empty writes region trees l bare none = λ i. kept_start writes region (bare i) (none i)
 
-pub gives_put : (writes region : ℕ) (l more : List Earlier) (e : Earlier) → more ≡ l ++ e ∷ [] → Gives e.first e.region e.blocks (kept_start writes region l) (kept_start writes region more)
-gives_put writes region l more e is = record {
+pub gives_put : (writes region : ℕ) (trees : List ℕ) (l more : List Earlier) (e : Earlier) → more ≡ l ++ e ∷ [] → Gives e.first e.region e.blocks (kept_start writes region trees l) (kept_start writes region trees more)
+gives_put writes region trees l more e is = record {
+  linked = λ r. refl;
   writes = refl;
   region = refl;
   here = λ x below. ap (λ (k : List Earlier). given_from 0 k e.region x) is ∙ given_put 0 l e e.region x ∙ inside x (given_from 0 l e.region x) below;
@@ -85,6 +87,15 @@ gives_put writes region l more e is = record {
       | inl here ↦ elim (cases_lt x e.blocks) [ inl below ↦ absurd (off here below) | inr past ↦ beyond r x v past ]
       | inr other ↦ apart r x v other
     ]
+
+behind_gives : (number q blocks : ℕ) (old new : Start) → Gives number q blocks old new → (asked : List Access) → WritesBehind old asked → WritesBehind new asked
+behind_gives number q blocks old new gives [] all = tt
+behind_gives number q blocks old new gives (Write r x ∷ rest) (inl own, all) = (inl (subst (λ n. n < r) (sym gives.region) own), behind_gives number q blocks old new gives rest all)
+behind_gives number q blocks old new gives (Write r x ∷ rest) (inr linked, all) = (inr (gives.linked r ∙ linked), behind_gives number q blocks old new gives rest all)
+behind_gives number q blocks old new gives (Make r n len ∷ rest) all = behind_gives number q blocks old new gives rest all
+behind_gives number q blocks old new gives (Read r x ∷ rest) all = behind_gives number q blocks old new gives rest all
+behind_gives number q blocks old new gives (Discard r ∷ rest) all = behind_gives number q blocks old new gives rest all
+behind_gives number q blocks old new gives (Open r n len ∷ rest) all = behind_gives number q blocks old new gives rest all
 
 module _ (number q blocks : ℕ) (old new : Start) (gives : Gives number q blocks old new) where
   -- one of them, or none
@@ -137,8 +148,8 @@ module _ (v : VaultState) (revs : RevState) (start : Start) (old new : StoreStat
   above_on : AllBelow v.next new.asked
   above_on = subst (AllBelow v.next) (sym asked) (below_more v.next old.asked access ready.tied.above (omega (arith, may.earlier, ready.tied.next)))
 
-  own_on : WritesBehind v.start.region new.asked
-  own_on = subst (WritesBehind v.start.region) (sym asked) (behind_more v.start.region old.asked access ready.tied.own tt)
+  own_on : WritesBehind v.start new.asked
+  own_on = subst (WritesBehind v.start) (sym asked) (behind_more v.start old.asked access ready.tied.own tt)
 
   count_on : v.count ≡ v.start.writes + writes new.asked
   count_on = omega (arith, ready.tied.count, ap writes asked, writes_open q shape.blocks (shape.width + 32) old.asked)
@@ -177,7 +188,7 @@ module _ (v : VaultState) (revs : RevState) (start : Start) (old new : StoreStat
             count = omega (arith, count_on, gives.writes);
             next = omega (arith, next_on, gives.region);
             above = above_on;
-            own = subst (λ (n : ℕ). WritesBehind n new.asked) (sym gives.region) own_on;
+            own = behind_gives number q shape.blocks v.start start gives new.asked own_on;
             live = λ r s l. elim (cases_eq r q) [
               | inl here ↦
                   let same : shape ≡ s = cc (numbered.here, sym (ap revs.live here) ∙ l) in
@@ -280,6 +291,7 @@ stays_lasts lasts = record {
   writes = ap (λ (s : Start). s.writes) lasts.start;
   region = ap (λ (s : Start). s.region) lasts.start;
   given = λ q x off. ap (λ (s : Start). s.given q x) lasts.start;
+  linked = λ q. ap (λ (s : Start). s.linked q) lasts.start;
   next = lasts.shapes.next;
   log = lasts.later.log;
   faults = lasts.later.faults;
@@ -296,6 +308,7 @@ stays_trans first second = record {
   writes = second.writes ∙ first.writes;
   region = second.region ∙ first.region;
   given = λ q x off. second.given q x off ∙ first.given q x off;
+  linked = λ q. second.linked q ∙ first.linked q;
   next = omega (arith, first.next, second.next);
   log = second.log ∙ first.log;
   faults = omega (arith, first.faults, second.faults);
@@ -319,6 +332,7 @@ stays_wider more within stays = record {
   writes = stays.writes;
   region = stays.region;
   given = λ q x off. stays.given q x (λ s. off (within q s));
+  linked = stays.linked;
   next = stays.next;
   log = stays.log;
   faults = stays.faults;
@@ -364,6 +378,7 @@ module _ (v : VaultState) (revs : RevState) (old new : StoreState) (q number : �
       writes = gives.writes;
       region = gives.region;
       given = λ r x off. gives.others r x (λ same _. off same);
+      linked = gives.linked;
       next = omega arith;
       log = asks.log;
       faults = asks.faults;
@@ -412,6 +427,7 @@ module _ (v : VaultState) (revs : RevState) (old new : StoreState) (q number : �
           writes = refl;
           region = refl;
           given = λ r x off. refl;
+          linked = λ r. refl;
           next = omega arith;
           log = asks.log;
           faults = asks.faults;
@@ -497,11 +513,11 @@ resumes_unchanged {T} v revs s q number shape ready may same =
     (resumes_unasked v v.revs s q number shape ready (record { live = λ r off. refl; number = λ r x off. refl; turn = λ r off. refl }) gone)
 
 -- the same of a list of regions that was kept
-pub resumes_kept : {T : Type 0} (q number : ℕ) (shape : Region) (result : Result T VaultErr) (v : VaultState) (old new : StoreState) (revs : RevState) (writes region : ℕ) (l more : List Earlier)
-    → v.start ≡ kept_start writes region l → more ≡ l → ResumesRegion q shape number result (world v old) (world (record v { revs = revs }) new)
-    → ResumesRegion q shape number result (world v old) (world (record v { start = kept_start writes region more; revs = revs }) new)
-resumes_kept q number shape result v old new revs writes region l more start same is =
-    subst (λ (s : Start). ResumesRegion q shape number result (world v old) (world (record v { start = s; revs = revs }) new)) (start ∙ sym (ap (kept_start writes region) same)) is
+pub resumes_kept : {T : Type 0} (q number : ℕ) (shape : Region) (result : Result T VaultErr) (v : VaultState) (old new : StoreState) (revs : RevState) (writes region : ℕ) (trees : List ℕ) (l more : List Earlier)
+    → v.start ≡ kept_start writes region trees l → more ≡ l → ResumesRegion q shape number result (world v old) (world (record v { revs = revs }) new)
+    → ResumesRegion q shape number result (world v old) (world (record v { start = kept_start writes region trees more; revs = revs }) new)
+resumes_kept q number shape result v old new revs writes region trees l more start same is =
+    subst (λ (s : Start). ResumesRegion q shape number result (world v old) (world (record v { start = s; revs = revs }) new)) (start ∙ sym (ap (kept_start writes region trees) same)) is
 
 -- the last of a list that one was added to is taken away again
 pub popped : {T : Type 0} (l more left : List T) (x : T) (taken : Option T) → more ≡ l ++ x ∷ [] → MatchOption taken ((more ≡ []) × (left ≡ [])) (λ y. more ≡ left ++ y ∷ []) → left ≡ l

@@ -216,7 +216,7 @@ pub may_get : (q x : ℕ) (shape : Region) (rows : List (List ℕ)) (w : World) 
 may_get q x shape rows w lives within fit written = record { place = record { shape = shape; lives = lives; within = within; fit = fit }; written = written }
 
 pub may_put : (q x : ℕ) (shape : Region) (rows : List (List ℕ)) (w : World) → IsOwn q w → Lives q shape w → x < shape.blocks → RowsFit rows shape.width → OnTurn q shape x w → MayPut q x rows w
-may_put q x shape rows w own lives within fit turn = record { own = own; place = record { shape = shape; lives = lives; within = within; fit = fit }; turn = turn }
+may_put q x shape rows w own lives within fit turn = record { own = inl own.above; place = record { shape = shape; lives = lives; within = within; fit = fit }; turn = turn }
 
 -- the region that is made next is one of this run
 pub own_next : (w : World) → Ready w → IsOwn w.vault.next w

@@ -71,7 +71,7 @@ module _ (v : VaultState) (s t : StoreState) (rests : ChangesNothing s t) where
           count = tied.count ∙ ap (λ (l : List Access). v.start.writes + writes l) (sym rests.asked);
           next = tied.next ∙ ap (λ (l : List Access). v.start.region + 1 + makes l) (sym rests.asked);
           above = subst (AllBelow v.next) (sym rests.asked) tied.above;
-          own = subst (WritesBehind v.start.region) (sym rests.asked) tied.own;
+          own = subst (WritesBehind v.start) (sym rests.asked) tied.own;
           live = λ q shape lives. record { live = rests.keeps.live q ∙ (tied.live q shape lives).live };
           numbers = λ q x shape lives within. tied.numbers q x shape lives within ∙ ap (λ (l : List Access). number_after v.start l q x) (sym rests.asked);
         };

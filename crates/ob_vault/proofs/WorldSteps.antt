@@ -21,7 +21,7 @@ use Rattle.ob_vault.specs.declared.region.Order.TheVariants.{Round, Any}
 use Rattle.ob_vault.specs.State.{Start, RevState, VaultState, World, from_earlier, earlier}
 use Rattle.ob_base.specs.Accesses.{writes, makes, nth_write, discard_at, read_at, write_at}
 use Rattle.ob_base.specs.Accesses.{AllBelow}
-use Rattle.ob_vault.specs.Numbers.{number_after, last_number, IsNumber, IsStart, WritesBehind}
+use Rattle.ob_vault.specs.Numbers.{MayWrite, number_after, last_number, IsNumber, IsStart, WritesBehind}
 use Rattle.ob_vault.specs.Tied.{InLaps, IsOwn, Ready, Scope, SealedAt, AllSealed, TagFits, ReadsIn, Calm, OnTurn, Holds, at_of}
 use Rattle.ob_vault.specs.Calls.{Apart, Only, Lasts, Seals, Went, CutShort, none, one}
 use Rattle.ob_vault.specs.VaultCalls.{Forgets}
@@ -85,16 +85,16 @@ laps_same q shape a b numbers turn laps = record {
 }
 
 -- writes behind a region, and one access more
-pub behind_more : (region : ℕ) (asked : List Access) (a : Access) → WritesBehind region asked → WritesBehind region (a ∷ []) → WritesBehind region (asked ++ a ∷ [])
-behind_more region [] a all last = last
-behind_more region (Make q blocks len ∷ rest) a all last = behind_more region rest a all last
-behind_more region (Read q x ∷ rest) a all last = behind_more region rest a all last
-behind_more region (Write q x ∷ rest) a all last = (all.0, behind_more region rest a all.1 last)
-behind_more region (Discard q ∷ rest) a all last = behind_more region rest a all last
-behind_more region (Open q blocks len ∷ rest) a all last = behind_more region rest a all last
+pub behind_more : (start : Start) (asked : List Access) (a : Access) → WritesBehind start asked → WritesBehind start (a ∷ []) → WritesBehind start (asked ++ a ∷ [])
+behind_more start [] a all last = last
+behind_more start (Make q blocks len ∷ rest) a all last = behind_more start rest a all last
+behind_more start (Read q x ∷ rest) a all last = behind_more start rest a all last
+behind_more start (Write q x ∷ rest) a all last = (all.0, behind_more start rest a all.1 last)
+behind_more start (Discard q ∷ rest) a all last = behind_more start rest a all last
+behind_more start (Open q blocks len ∷ rest) a all last = behind_more start rest a all last
 
-behind_asked : (region : ℕ) (a : Access) (old new : StoreState) → Asks a old new → WritesBehind region old.asked → WritesBehind region (a ∷ []) → WritesBehind region new.asked
-behind_asked region a old new asks all last = subst (WritesBehind region) (sym asks.asked) (behind_more region old.asked a all last)
+behind_asked : (start : Start) (a : Access) (old new : StoreState) → Asks a old new → WritesBehind start old.asked → WritesBehind start (a ∷ []) → WritesBehind start new.asked
+behind_asked start a old new asks all last = subst (WritesBehind start) (sym asks.asked) (behind_more start old.asked a all last)
 
 -- a call that may have changed one region, and no number
 pub record Moved (g : ℕ) (old new : World) : Type 0 where
@@ -103,7 +103,7 @@ pub record Moved (g : ℕ) (old new : World) : Type 0 where
   pub count : new.vault.count ≡ new.vault.start.writes + writes new.store.asked
   pub next : new.vault.next ≡ new.vault.start.region + 1 + makes new.store.asked
   pub above : AllBelow new.vault.next new.store.asked
-  pub own : WritesBehind new.vault.start.region new.store.asked
+  pub own : WritesBehind new.vault.start new.store.asked
   pub up : old.vault.next ≤ new.vault.next
   pub revs : OtherRegions g old.vault.revs new.vault.revs
   pub only : OnlyRegion g old.store new.store
@@ -222,7 +222,7 @@ lasts_read v old new q x shape ready lives asks keeps =
           count = tied.count ∙ sym (ap (λ (l : List Access). v.start.writes + writes l) asks.asked ∙ ap (λ (n : ℕ). v.start.writes + n) (writes_read q x old.asked));
           next = omega (arith, tied.next, ap makes asks.asked, makes_more old.asked (Read q x));
           above = subst (AllBelow v.next) (sym asks.asked) (below_more v.next old.asked (Read q x) tied.above (ready.below q shape lives));
-          own = behind_asked v.start.region (Read q x) old new asks tied.own tt;
+          own = behind_asked v.start (Read q x) old new asks tied.own tt;
           live = λ r s l. record { live = keeps.live r ∙ (tied.live r s l).live };
           numbers = λ r y s l h. tied.numbers r y s l h ∙ sym (numbers r y);
         };
@@ -257,7 +257,7 @@ lasts_discard v revs old new g ready below others gone asks only left =
       count = tied.count ∙ sym (ap (λ (l : List Access). v.start.writes + writes l) asks.asked ∙ ap (λ (n : ℕ). v.start.writes + n) (writes_discard g old.asked));
       next = omega (arith, tied.next, ap makes asks.asked, makes_more old.asked (Discard g));
       above = subst (AllBelow v.next) (sym asks.asked) (below_more v.next old.asked (Discard g) tied.above below);
-      own = behind_asked v.start.region (Discard g) old new asks tied.own tt;
+      own = behind_asked v.start (Discard g) old new asks tied.own tt;
       up = omega arith;
       revs = others;
       only = only;
@@ -360,7 +360,7 @@ went_call a some old new lasts asks faults lie = record {
 }
 
 module _ (v : VaultState) (revs : RevState) (old new : StoreState) (q x : ℕ) (shape : Region) (ready : Ready (world v old)) (lives : v.revs.live q ≡ Some shape)
-    (own : IsOwn q (world v old)) (in_turn : OnTurn q shape x (world v old)) (wrote : Wrote q shape x (v.count + 1) v.revs revs) (asks : Asks (Write q x) old new) (only : OnlyAt q x old new) where
+    (own : MayWrite v.start q) (in_turn : OnTurn q shape x (world v old)) (wrote : Wrote q shape x (v.count + 1) v.revs revs) (asks : Asks (Write q x) old new) (only : OnlyAt q x old new) where
   number_here : number_after v.start new.asked q x ≡ v.count + 1
   number_here = ap (λ (l : List Access). number_after v.start l q x) asks.asked ∙ number_write_here v.start.writes (v.start.given q x) q x old.asked ∙ ap (λ (n : ℕ). n + 1) (sym ready.tied.count)
 
@@ -413,7 +413,7 @@ module _ (v : VaultState) (revs : RevState) (old new : StoreState) (q x : ℕ) (
           count = omega (arith, tied.count, ap writes asks.asked, writes_write q x old.asked);
           next = omega (arith, tied.next, ap makes asks.asked, makes_more old.asked (Write q x));
           above = subst (AllBelow v.next) (sym asks.asked) (below_more v.next old.asked (Write q x) tied.above (ready.below q shape lives));
-          own = behind_asked v.start.region (Write q x) old new asks tied.own (own.above, tt);
+          own = behind_asked v.start (Write q x) old new asks tied.own (own, tt);
           live = λ r s l. record { live = only.live r ∙ (tied.live r s (sym (wrote.live r) ∙ l)).live };
           numbers = λ r y s l h. elim (cases_eq r q) [
             | inl in_region ↦ elim (cases_eq y x) [
@@ -550,7 +550,7 @@ lasts_make v revs old new shape ready wide begins asks makes' =
       count = omega (arith, tied.count, ap writes asks.asked, writes_make g shape.blocks (shape.width + 32) old.asked);
       next = omega (arith, tied.next, ap makes asks.asked, makes_more old.asked access);
       above = subst (AllBelow (v.next + 1)) (sym asks.asked) (below_more (v.next + 1) old.asked access (below_up v.next (v.next + 1) old.asked (omega arith) tied.above) (omega arith));
-      own = behind_asked v.start.region access old new asks tied.own tt;
+      own = behind_asked v.start access old new asks tied.own tt;
       up = omega arith;
       revs = begins.others;
       only = makes'.others;
@@ -590,7 +590,7 @@ lasts_unmade v revs old new blocks len ready same asks only =
       count = omega (arith, tied.count, ap writes asks.asked, writes_make g blocks len old.asked);
       next = omega (arith, tied.next, ap makes asks.asked, makes_more old.asked access);
       above = subst (AllBelow (v.next + 1)) (sym asks.asked) (below_more (v.next + 1) old.asked access (below_up v.next (v.next + 1) old.asked (omega arith) tied.above) (omega arith));
-      own = behind_asked v.start.region access old new asks tied.own tt;
+      own = behind_asked v.start access old new asks tied.own tt;
       up = omega arith;
       revs = subst (OtherRegions g v.revs) (sym same) (others_same g v.revs);
       only = only;
@@ -650,7 +650,7 @@ ready_new w none start count next empty = record {
     count = omega (arith, count, ap writes none);
     next = omega (arith, next, ap makes none);
     above = subst (AllBelow w.vault.next) (sym none) tt;
-    own = subst (WritesBehind w.vault.start.region) (sym none) tt;
+    own = subst (WritesBehind w.vault.start) (sym none) tt;
     live = λ q s l. absurd (cc (l, empty q));
     numbers = λ q x s l h. absurd (cc (l, empty q));
   };

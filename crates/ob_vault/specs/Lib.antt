@@ -12,3 +12,4 @@ pub mod VaultCalls
 pub mod Resuming
 pub mod Words
 pub mod Rekeying
+pub mod Linked

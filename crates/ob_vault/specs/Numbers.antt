@@ -1,5 +1,5 @@
 -- The numbers of writes and of places, where a run goes on from an earlier one.
-use Rattle.std.specs.Prelude.{◌≡◌, ◌≢◌, ◌⊎◌, ◌<◌, ◌≤◌, ◌+◌, ◌-◌, ℕ, List, [], ◌∷◌, Some, length, slice_get, take}
+use Rattle.std.specs.Prelude.{true, ◌≡◌, ◌≢◌, ◌⊎◌, ◌<◌, ◌≤◌, ◌+◌, ◌-◌, ℕ, List, [], ◌∷◌, Some, length, slice_get, take}
 use Rattle.ob_base.specs.declared.access.Access.{Access}
 use Rattle.ob_base.specs.declared.access.Access.TheVariants.{Make, Read, Write, Discard, Open}
 use Rattle.ob_base.specs.Accesses.{writes, number_from, nth_write}
@@ -34,14 +34,18 @@ pub record IsWrite (i q x : ℕ) (w : World) : Type 0 where
 abbrev pub write_number : ℕ → World → ℕ
 write_number i w = w.vault.start.writes + (writes (take i w.store.asked) + 1)
 
--- each write is to a region behind this one
-abbrev pub WritesBehind : ℕ → List Access → Type 0
-WritesBehind region [] = Unit {0}
-WritesBehind region (Write q x ∷ rest) = (region < q) × WritesBehind region rest
-WritesBehind region (Make q blocks len ∷ rest) = WritesBehind region rest
-WritesBehind region (Read q x ∷ rest) = WritesBehind region rest
-WritesBehind region (Discard q ∷ rest) = WritesBehind region rest
-WritesBehind region (Open q blocks len ∷ rest) = WritesBehind region rest
+-- a run may write to a region that is its own, or linked
+abbrev pub MayWrite : Start → ℕ → Type 0
+MayWrite start q = (start.region < q) ⊎ (start.linked q ≡ true)
+
+-- each write is to such a region
+abbrev pub WritesBehind : Start → List Access → Type 0
+WritesBehind start [] = Unit {0}
+WritesBehind start (Write q x ∷ rest) = MayWrite start q × WritesBehind start rest
+WritesBehind start (Make q blocks len ∷ rest) = WritesBehind start rest
+WritesBehind start (Read q x ∷ rest) = WritesBehind start rest
+WritesBehind start (Discard q ∷ rest) = WritesBehind start rest
+WritesBehind start (Open q blocks len ∷ rest) = WritesBehind start rest
 
 -- the accesses so far, counted on from where an earlier run's numbers are: no number of a write or a region is above it
 abbrev pub spent : World → ℕ

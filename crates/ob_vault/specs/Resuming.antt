@@ -41,6 +41,7 @@ pub record Gives (number : ℕ) (q : ℕ) (blocks : ℕ) (old new : Start) : Typ
   pub region : new.region ≡ old.region
   pub here : (x : ℕ) → x < blocks → new.given q x ≡ number + x
   pub others : (r x : ℕ) → (r ≡ q → x < blocks → ⊥) → new.given r x ≡ old.given r x
+  pub linked : (r : ℕ) → new.linked r ≡ old.linked r
 
 -- what lasts over calls of which some may open an earlier run's region, whatever they answer
 pub record Stays (some : ℕ → Type 0) (old new : World) : Type 0 where
@@ -49,6 +50,7 @@ pub record Stays (some : ℕ → Type 0) (old new : World) : Type 0 where
   pub writes : new.vault.start.writes ≡ old.vault.start.writes
   pub region : new.vault.start.region ≡ old.vault.start.region
   pub given : (q x : ℕ) → (some q → ⊥) → new.vault.start.given q x ≡ old.vault.start.given q x
+  pub linked : (q : ℕ) → new.vault.start.linked q ≡ old.vault.start.linked q
   pub next : old.vault.next ≤ new.vault.next
   pub log : new.store.let_go ≡ old.store.let_go
   pub faults : old.store.faults ≤ new.store.faults

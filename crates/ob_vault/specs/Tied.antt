@@ -21,7 +21,7 @@ pub record Tied (w : World) : Type 0 where
   pub count : w.vault.count ≡ w.vault.start.writes + writes w.store.asked
   pub next : w.vault.next ≡ w.vault.start.region + 1 + makes w.store.asked
   pub above : AllBelow w.vault.next w.store.asked
-  pub own : WritesBehind w.vault.start.region w.store.asked
+  pub own : WritesBehind w.vault.start w.store.asked
   pub live : (q : ℕ) (shape : Region) → w.vault.revs.live q ≡ Some shape
       → IsRegion q shape.blocks (shape.width + 32) w.store
   pub numbers : (q x : ℕ) (shape : Region) → w.vault.revs.live q ≡ Some shape → x < shape.blocks

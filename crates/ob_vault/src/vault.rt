@@ -22,23 +22,26 @@ pub struct Vault<R> {
     writes: u64,
     region: u64,
     resumed: Items<Earlier>,
+    // its regions that this run may write to: trees of indexes
+    trees: Items<u64>,
     block: [u8; 16416],
 }
 
 impl<R: Revisions> Vault<R> {
-    ghost use Rattle.std.specs.Prelude.{◌≡◌, ◌<◌, ◌≤◌, ◌+◌, ◌-◌, ◌^◌, [], ℕ, Some, None, min};
+    ghost use Rattle.std.specs.Prelude.{◌≡◌, ◌<◌, ◌≤◌, ◌+◌, ◌-◌, ◌^◌, [], ℕ, Some, None, min, length};
     ghost use Rattle.ob_store.specs.Calls.{IsLive};
     ghost use Rattle.ob_store.specs.State.{StoreState};
     ghost use Rattle.ob_vault.specs.declared.region.Region.{Region as Layout};
     ghost use Rattle.ob_vault.specs.State.{HasNoneFrom, from_nothing, from_earlier};
-    ghost use Rattle.ob_vault.specs.Numbers.{spent};
+    ghost use Rattle.ob_vault.specs.Numbers.{last_number, spent};
     ghost use Rattle.ob_vault.specs.Tied.{Ready, Lives};
     ghost use Rattle.ob_vault.specs.Rows.{SameSizes};
     ghost use Rattle.ob_seal.specs.KeySet.{pair_of};
     ghost use Rattle.ob_seal.specs.Sealed.{IsSalt};
-    ghost use Rattle.ob_vault.specs.Places.{at, keys_in, start_of, MayGet, MayPut};
+    ghost use Rattle.ob_vault.specs.Places.{at, keys_in, start_of, MayGet, MayPut, PlaceIn};
     ghost use Rattle.ob_vault.specs.Resuming.{MayResume, ResumesRegion};
     ghost use Rattle.ob_vault.specs.Rekeying.{rekeyed};
+    ghost use Rattle.ob_vault.specs.Linked.{GetsAt};
     ghost use Rattle.ob_vault.specs.VaultCalls.{MakesRegion, Gets, Puts, DropsRegion, Forgets};
 
     /// A vault with no region.
@@ -63,6 +66,7 @@ impl<R: Revisions> Vault<R> {
         ensures empty { (q : ℕ) → (R.state result.revs).live q ≡ None }
     {
         let resumed = Items::new(alloc);
+        let trees = Items::new(alloc);
         Vault {
             keys,
             revs: R::new(alloc),
@@ -71,6 +75,7 @@ impl<R: Revisions> Vault<R> {
             writes,
             region: region - 1,
             resumed,
+            trees,
             block: [0; 16416],
         }
     }
@@ -202,6 +207,44 @@ impl<R: Revisions> Vault<R> {
         }
     }
 
+    /// Reads the rows of a place whose number its caller knows, of a region that keeps none: the block above it named it.
+    pub fn get_at<S: BlockStore>(
+        &mut self,
+        store: &mut S,
+        region: u64,
+        place: u32,
+        number: u64,
+        rows: &mut [ClearRow],
+    ) -> Result<(), VaultErr>
+        requires ready { Ready (at R.state self.old (S.state store.old)) }
+        requires spare { 1 ≤ (S.state store.old).spare }
+        requires place { PlaceIn region place rows.old (at R.state self.old (S.state store.old)) }
+        requires number { number
+            ≡ last_number (at R.state self.old (S.state store.old)) region place }
+        ensures rows { SameSizes rows.old rows.new }
+        ensures spent { (S.state store.old).spare ≤ (S.state store.new).spare + 1 }
+        ensures gets { GetsAt region place number rows.old rows.new result
+            (at R.state self.old (S.state store.old)) (at R.state self.new (S.state store.new)) }
+    {
+        let shape = self.revs.shape(region);
+        let width = shape.width as usize / rows.len();
+        let len = shape.width as usize + 32;
+        match load(store, region, place, len, &mut self.block) {
+            Ok(()) => {}
+            Err(_) => return Err(VaultErr::Failed),
+        }
+        let at = At {
+            region,
+            place,
+            number,
+        };
+        if open(&self.keys, at, &self.block[..len], width, rows) {
+            Ok(())
+        } else {
+            Err(VaultErr::Tampered { region, place })
+        }
+    }
+
     /// Seals rows under the next write number, and writes their block, in a region that this run made.
     pub fn put<S: BlockStore>(
         &mut self,
@@ -280,6 +323,8 @@ impl<R: Revisions> Vault<R> {
     pub fn give_up<S: BlockStore>(&self, store: &mut S, from: u64)
         requires forgotten { HasNoneFrom from (R.state self.now.revs) }
         ensures same { S.state store.new ≡ S.state store.old }
+        ensures given_up { S.given_up store.new
+            ≡ Some (record { from = from; asked = length (S.state store.old).asked }) }
     {
         store.give_up(from);
     }
@@ -299,6 +344,13 @@ impl<R: Revisions> Vault<R> {
         ensures long { IsSalt result }
     {
         self.keys.salt_of(region)
+    }
+
+    /// The check value of the run that made a region.
+    pub fn check_of(&self, region: u64) -> [u8; 16]
+        ensures { result ≡ (pair_of (keys_in self.now) region).check }
+    {
+        self.keys.check_of(region)
     }
 
     /// The number of the next region.

@@ -298,12 +298,7 @@ source_few p (Join a b on equals) tables there past =
 slots_few : (p : Public) (late : Bool) (stmt : Stmt) → IsPublic p → early_refusal late (limits_of p) (headings_of p.tables) stmt ≡ None → statement_slots p stmt ≤ 16777216
 slots_few p late (RowsStmt s) public accepted =
     let free = allowed late (limits_of p) (headings_of p.tables) (RowsStmt s) accepted in source_few p s.source public.tables free.tables (neither (nat_lt 32 (length (listed s))) (joins_past (limits_of p) (headings_of p.tables) s.source) free.limits).1
-slots_few p late (TotalsStmt s) public accepted = omega arith
-slots_few p late (Create a b c d) public accepted = omega arith
-slots_few p late (Insert a b c) public accepted = omega arith
-slots_few p late (Update a b c) public accepted = omega arith
-slots_few p late (Delete a b) public accepted = omega arith
-slots_few p late (DropTable a) public accepted = omega arith
+slots_few p late other public accepted = omega arith
 
 pub buckets_fit : BucketsFit
 buckets_fit p late stmt k public accepted few =

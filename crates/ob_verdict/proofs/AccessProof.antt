@@ -96,20 +96,8 @@ equal_asked cs name x z is = go (is_key cs (place_of name cs)) refl is
     go false key is = absurd (cc is)
 
 pub where_is : (cs : Columns) (cond : Option Search) (z : ℤ) → key_asked cs cond ≡ Some z → where_at cond cs ≡ key_is (key_at cs) z
-where_is cs None z is = absurd (cc is)
 where_is cs (Some (Compare name Equal (LiteralAgainst (IntLiteral x)))) z is = equal_asked cs name x z is
-where_is cs (Some (Compare name Equal (LiteralAgainst OutOfRange))) z is = absurd (cc is)
-where_is cs (Some (Compare name Equal (LiteralAgainst (TextLiteral x)))) z is = absurd (cc is)
-where_is cs (Some (Compare name Equal (LiteralAgainst TooLong))) z is = absurd (cc is)
-where_is cs (Some (Compare name Equal (ColumnAgainst x))) z is = absurd (cc is)
-where_is cs (Some (Compare name NotEqual with)) z is = absurd (cc is)
-where_is cs (Some (Compare name Less with)) z is = absurd (cc is)
-where_is cs (Some (Compare name LessOrEqual with)) z is = absurd (cc is)
-where_is cs (Some (Compare name Greater with)) z is = absurd (cc is)
-where_is cs (Some (Compare name GreaterOrEqual with)) z is = absurd (cc is)
-where_is cs (Some (Not p)) z is = absurd (cc is)
-where_is cs (Some (And p q)) z is = absurd (cc is)
-where_is cs (Some (Or p q)) z is = absurd (cc is)
+where_is cs other z is = absurd (cc is)
 
 pub record IsAsked (cs : Columns) (cond : Option Search) (of : ℤ → Ask) (ask : Ask) : Type 0 where
   pub number : ℤ
@@ -146,9 +134,6 @@ next_of ts stmt t ask found asked = by stmt found asked
 
     by : (stmt : Stmt) → keyed_table ts stmt ≡ Some t → ask_of t.heading stmt ≡ Some ask
         → (stored_at t.heading.name ts ≡ Some t) × (changed_at t.heading.name (stepped i ask) (database ts) ≡ accepted_next (database ts) stmt)
-    by (Create table columns capacity shape) found asked = absurd (cc found)
-    by (DropTable table) found asked = absurd (cc found)
-    by (TotalsStmt s) found asked = absurd (cc found)
     by (Insert table columns values) found asked =
         let is = found in
         let ask_is : ask ≡ Put (new_row cs columns values) = cc asked in
@@ -178,6 +163,7 @@ next_of ts stmt t ask found asked = by stmt found asked
             let a = asked_of cs s.cond Find ask asked in
             named name (RowsStmt s) is (stepped_as _ a.is name ∙ kept_at name (database ts))
         of_source (Join a b on equals) found = absurd (cc found)
+    by other found asked = absurd (cc found)
 
 -- ---- an index in place
 pub all_rows : (n : ℕ) (slots : Slots) → rows (take n slots) ++ rows (drop n slots) ≡ rows slots

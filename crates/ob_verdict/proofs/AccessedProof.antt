@@ -187,9 +187,6 @@ module _ (p : Public) (ts : Tables) (same : headings ts ≡ headings_of p.tables
   asks_mapped of (Some z) h = refl
 
   pub access_public : (late : Bool) (limits : Limits) (stmt : Stmt) → early_refusal late limits (headings ts) stmt ≡ None → is_access p (skeleton stmt) ≡ is_some (accessed ts stmt)
-  access_public late limits (Create table columns capacity shape) early = refl
-  access_public late limits (DropTable table) early = refl
-  access_public late limits (TotalsStmt q) early = refl
   access_public late limits (Insert table columns values) early =
       public_index table ∙ access_at (Insert table columns values) table refl (λ t found shaped. refl)
   access_public late limits (Update table sets cond) early =
@@ -210,17 +207,16 @@ module _ (p : Public) (ts : Tables) (same : headings ts ≡ headings_of p.tables
           let free = allowed late limits (headings ts) stmt early in
           public_index name ∙ access_at stmt name refl (λ t found shaped. asks_mapped Find (key_asked t.heading.schema cond) (asked_there name cond t found shaped free.keyed))
       of_source (Join a b on equals) list cond early = refl
+  access_public late limits other early = refl
 
 -- a cell is one of n keys exactly where its number is less
 own_key : (n : ℕ) (c : Option Cell) → is_key_cell n c ≡ nat_lt (cell_number n c) n
-own_key n None = grind (arith, nat_tests)
-own_key n (Some (Text t)) = grind (arith, nat_tests)
-own_key n (Some (Int (negsuc x))) = grind (arith, nat_tests)
 own_key n (Some (Int (pos x))) = go (nat_lt x n) refl
   where
     go : (b : Bool) → nat_lt x n ≡ b → b ≡ nat_lt (cond b x n) n
     go true is = sym is
     go false is = grind (arith, nat_tests)
+own_key n other = grind (arith, nat_tests)
 
 -- ---- what an access leaves
 -- the tables that SQL's meaning leaves where nothing refuses, and else those that there were
@@ -293,9 +289,6 @@ module _ (groups draw : ℕ) (late : Bool) (limits : Limits) (ts : Tables) (t : 
 
   pub leaves_tables : (stmt : Stmt) (ask : Ask) → early_refusal late limits (headings ts) stmt ≡ None → keyed_table ts stmt ≡ Some t → ask_of t.heading stmt ≡ Some ask → went draw t ask ≡ Some w
       → LeavesTables groups ts stmt t w
-  leaves_tables (Create table columns capacity shape) ask early found asked goes = absurd (cc found)
-  leaves_tables (DropTable table) ask early found asked goes = absurd (cc found)
-  leaves_tables (TotalsStmt q) ask early found asked goes = absurd (cc found)
   leaves_tables (Insert table columns values) ask early found asked goes = put table columns values found ask (cc asked) goes
   leaves_tables (Update table sets cond) ask early found asked goes =
       accepted (Update table sets cond) ask found asked refl
@@ -304,3 +297,4 @@ module _ (groups draw : ℕ) (late : Bool) (limits : Limits) (ts : Tables) (t : 
       accepted (Delete table cond) ask found asked refl (asked_for Take ask (key_asked t.heading.schema cond) asked (λ z. tt)) goes
   leaves_tables (RowsStmt q) ask early found asked goes =
       accepted (RowsStmt q) ask found asked refl (asked_for Find ask (key_asked t.heading.schema q.cond) asked (λ z. tt)) goes
+  leaves_tables other ask early found asked goes = absurd (cc found)

@@ -66,25 +66,16 @@ module _ (hs gs : List Heading) (same : SameHeadings hs gs) where
 
   takes_same : (stmt : Stmt) → takes_name hs stmt ≡ takes_name gs stmt
   takes_same (Create table columns capacity shape) = ap (λ (b : Bool). b || has_repeats bytes_eq (map (λ (c : NewColumn). c.name) columns)) (has_same table)
-  takes_same (Insert table columns values) = refl
-  takes_same (Update table sets cond) = refl
-  takes_same (Delete table cond) = refl
-  takes_same (DropTable table) = refl
-  takes_same (RowsStmt s) = refl
-  takes_same (TotalsStmt s) = refl
+  takes_same other = refl
 
   apart_same : (source : Source) → joins_apart hs source ≡ joins_apart gs source
   apart_same (OneTable name) = refl
   apart_same (Join a b on equals) = λ i. is_across (length (columns_same a i)) (source_same (Join a b on equals) i) on equals
 
   select_same : (stmt : Stmt) → select_lacks_column hs stmt ≡ select_lacks_column gs stmt
-  select_same (Create table columns capacity shape) = refl
-  select_same (Insert table columns values) = refl
-  select_same (Update table sets cond) = refl
-  select_same (Delete table cond) = refl
-  select_same (DropTable table) = refl
   select_same (RowsStmt s) = ap not (apart_same s.source)
   select_same (TotalsStmt s) = ap (λ (cs : Columns). has_stray_column cs s) (columns_same s.table)
+  select_same other = refl
 
   column_same : (stmt : Stmt) → lacks_column hs stmt ≡ lacks_column gs stmt
   column_same stmt = λ i. lack_columns (scope_same stmt i) (named_columns stmt ++ flat_map comparison_columns (compared stmt)) || select_same stmt i
@@ -104,34 +95,20 @@ module _ (hs gs : List Heading) (same : SameHeadings hs gs) where
   limit_same limits (Create table columns capacity shape) =
       ap (λ (n : ℕ). (not (is_in_range 1 1048576 capacity) || not (is_in_range 1 16 (length columns)) || list_any (λ (c : NewColumn). not (is_size c.kind)) columns
       || nat_lt 1024 (width (columns_of table columns)) || nat_le 64 n) || by_shape shape false (index_past limits capacity)) same.count
-  limit_same limits (Insert table columns values) = refl
-  limit_same limits (Update table sets cond) = refl
-  limit_same limits (Delete table cond) = refl
-  limit_same limits (DropTable table) = refl
   limit_same limits (RowsStmt s) = ap (λ (b : Bool). nat_lt 32 (length (listed s)) || b) (past_same limits s.source)
-  limit_same limits (TotalsStmt s) = refl
+  limit_same limits other = refl
 
   key_same : (stmt : Stmt) → breaks_key_rule hs stmt ≡ breaks_key_rule gs stmt
-  key_same (Create table columns capacity shape) = refl
-  key_same (Insert table columns values) = refl
   key_same (Update table sets cond) = ap (λ (cs : Columns). sets_key cs sets) (columns_same table)
-  key_same (Delete table cond) = refl
-  key_same (DropTable table) = refl
-  key_same (RowsStmt s) = refl
-  key_same (TotalsStmt s) = refl
+  key_same other = refl
 
   off_key_same : (source : Source) → joins_off_key_at hs source ≡ joins_off_key_at gs source
   off_key_same (OneTable name) = refl
   off_key_same (Join a b on equals) = λ i. not (is_key (columns_same a i) (left_place (length (columns_same a i)) (source_same (Join a b on equals) i) on equals))
 
   join_same : (stmt : Stmt) → joins_off_key hs stmt ≡ joins_off_key gs stmt
-  join_same (Create table columns capacity shape) = refl
-  join_same (Insert table columns values) = refl
-  join_same (Update table sets cond) = refl
-  join_same (Delete table cond) = refl
-  join_same (DropTable table) = refl
   join_same (RowsStmt s) = off_key_same s.source
-  join_same (TotalsStmt s) = refl
+  join_same other = refl
 
   index_same : (name : List ℕ) → is_index hs name ≡ is_index gs name
   index_same name = ap (λ (o : Option Heading). option_map_or (λ (h : Heading). is_indexed h.shape) o false) (same.at name)
@@ -144,13 +121,11 @@ module _ (hs gs : List Heading) (same : SameHeadings hs gs) where
   source_key_same (Join a b on equals) cond = λ i. index_same a i || index_same b i
 
   needs_same : (stmt : Stmt) → needs_key hs stmt ≡ needs_key gs stmt
-  needs_same (Create table columns capacity shape) = refl
-  needs_same (Insert table columns values) = refl
   needs_same (Update table sets cond) = lacks_key_same table cond
   needs_same (Delete table cond) = lacks_key_same table cond
-  needs_same (DropTable table) = refl
   needs_same (RowsStmt s) = source_key_same s.source s.cond
   needs_same (TotalsStmt s) = index_same s.table
+  needs_same other = refl
 
   pub early_same : (late : Bool) (limits : Limits) (stmt : Stmt) → early_refusal late limits hs stmt ≡ early_refusal late limits gs stmt
   early_same late limits stmt = λ i. first_holding (

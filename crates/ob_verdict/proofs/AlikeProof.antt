@@ -87,16 +87,12 @@ module _ (d : Draws) (p : Public) (m : ℕ) (ts us : Tables) (alike : AreAlike t
 
   -- ---- the refusal and the answer
   late_same : (s : ℕ) (stmt : Stmt) → late_refusal s (database ts) stmt ≡ late_refusal s (database us) stmt
-  late_same s (Create table columns capacity shape) = refl
   late_same s (Insert table columns values) =
       ap (λ (o : Option (Stored (List Row))). option_map_or (λ (t : Stored (List Row)). insert_refusal t (new_row t.heading.schema columns values)) o None) (held_same table)
-  late_same s (Update table sets cond) = refl
-  late_same s (Delete table cond) = refl
-  late_same s (DropTable table) = refl
-  late_same s (RowsStmt q) = refl
   late_same s (TotalsStmt q) =
       let columns = bag_columns q.table in
       λ i. if overgroups s q.group (columns i) (filter (is_true (where_at q.cond (columns i))) (bag_same q.table i)) then Some TooManyGroups else None
+  late_same s other = refl
 
   -- ---- what it accesses
   keyed_same : (stmt : Stmt) → keyed_table ts stmt ≡ keyed_table us stmt
@@ -110,13 +106,8 @@ module _ (d : Draws) (p : Public) (m : ℕ) (ts us : Tables) (alike : AreAlike t
   accessed_same stmt = ap (option_and_then (access_of stmt)) (keyed_same stmt)
 
   last_same : (stmt : Stmt) → last_refusal p ts stmt ≡ last_refusal p us stmt
-  last_same (Create table columns capacity shape) = refl
-  last_same (Insert table columns values) = refl
-  last_same (Update table sets cond) = refl
-  last_same (Delete table cond) = refl
-  last_same (DropTable table) = refl
   last_same (RowsStmt q) = λ i. if is_some (accessed_same (RowsStmt q) i) then None else rows_refusal p (places_same q i)
-  last_same (TotalsStmt q) = refl
+  last_same other = refl
 
   refusal_same : (stmt : Stmt) → refusal p m ts stmt ≡ refusal p m us stmt
   refusal_same stmt =
@@ -124,31 +115,24 @@ module _ (d : Draws) (p : Public) (m : ℕ) (ts us : Tables) (alike : AreAlike t
       λ i. option_or (option_or (early i) (late_same (buffered p.pack p.buffer) stmt i)) (last_same stmt i)
 
   accepted_same : (stmt : Stmt) → accepted_answer (database ts) stmt ≡ accepted_answer (database us) stmt
-  accepted_same (Create table columns capacity shape) = refl
-  accepted_same (Insert table columns values) = refl
   accepted_same (Update table sets cond) =
       let columns = bag_columns table in
       λ i. A.Changed (count_by (is_true (where_at cond (columns i))) (bag_same table i))
   accepted_same (Delete table cond) =
       let columns = bag_columns table in
       λ i. A.Changed (count_by (is_true (where_at cond (columns i))) (bag_same table i))
-  accepted_same (DropTable table) = refl
   accepted_same (RowsStmt q) =
       let columns = source_same (headings (database ts)) (headings (database us)) bag_heads q.source in
       λ i. A.Rows (rows_answer q (columns i) (filter (is_true (where_at q.cond (columns i))) (source_rows_same q.source i)))
   accepted_same (TotalsStmt q) =
       let columns = bag_columns q.table in
       λ i. A.Rows (totals_answer q (columns i) (filter (is_true (where_at q.cond (columns i))) (bag_same q.table i)))
+  accepted_same other = refl
 
   -- ---- what is seen
   started_same : (stmt : Stmt) → seen_started p ts stmt ≡ seen_started p us stmt
-  started_same (Create table columns capacity shape) = refl
-  started_same (Insert table columns values) = refl
-  started_same (Update table sets cond) = refl
-  started_same (Delete table cond) = refl
-  started_same (DropTable table) = refl
   started_same (RowsStmt q) = λ i. seen_rows p (length (source_slots_same q.source i)) (places_same q i)
-  started_same (TotalsStmt q) = refl
+  started_same other = refl
 
   served_same : (stmt : Stmt) → seen_served d (accessed ts stmt) p ts stmt ≡ seen_served d (accessed us stmt) p us stmt
   served_same stmt = ap (λ (o : Option Accessed). seen_served d o p ts stmt) (accessed_same stmt) ∙ of_access (accessed us stmt)

@@ -171,10 +171,8 @@ module _ (n i : ℕ) where
       go (inr past) = let no = le-ltb k n past in rw no (Same-is _ _ (sym (rest_is z all range ∙ none_but k all (past_none all range past))))
 
   keeps : (ask : Ask) (all : List Row) → FitsIndex n i ask all → KeepsKey key (op_of n ask)
-  keeps (Find z) all fits = tt
-  keeps (Put row) all fits = tt
   keeps (Set z sets) all fits = λ row. ap (cell_number n) (fits row)
-  keeps (Take z) all fits = tt
+  keeps other all fits = tt
 
   -- a row that is not put in leaves those that there are
   refused_keeps : (row : Row) (all : List Row) → Single key all → IsNotPut n i row all → Same (applied key n (op_of n (Put row)) all) all

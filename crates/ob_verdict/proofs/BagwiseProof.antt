@@ -42,16 +42,13 @@ consecutive_by true r h = absurd (cc h)
 consecutive_by false r h = cc h
 
 forced_by_plan : (p : Public) (planner : Planner) (places : List ℕ) (r : Refusal) → p.planner ≡ planner → forced_refusal p planner places ≡ Some r → IsByPlan p (Refused r)
-forced_by_plan p Auto places r is h = absurd (cc h)
-forced_by_plan p Cheapest places r is h = absurd (cc h)
-forced_by_plan p (Forced Small) places r is h = absurd (cc h)
-forced_by_plan p (Forced Large) places r is h = absurd (cc h)
 forced_by_plan p (Forced Continuous) places r is h = subst (λ q. IsByPlan p (Refused q)) (consecutive_by (is_consecutive places) r h) is
 forced_by_plan p (Forced Hash) places r is h = go (first_unplaced p places) h
   where
     go : (left : Option ℕ) → option_map Overflow left ≡ Some r → IsByPlan p (Refused r)
     go None h = absurd (cc h)
     go (Some i) h = let same : Overflow i ≡ r = cc h in subst (λ q. IsByPlan p (Refused q)) same is
+forced_by_plan p other places r is h = absurd (cc h)
 
 padded_by : (b : Bool) (r : Refusal) → cond b (Some PadPassed) None ≡ Some r → PadPassed ≡ r
 padded_by true r h = cc h
@@ -64,17 +61,12 @@ by_plan p (Some pad) places r is h =
     subst (λ q. IsByPlan p (Refused q)) (padded_by (nat_lt pad (length places)) r h) (subst (λ (o : Option ℕ). IsSome o) (sym is) refl)
 
 last_by_plan : (p : Public) (ts : Tables) (stmt : Stmt) (r : Refusal) → last_refusal p ts stmt ≡ Some r → IsByPlan p (Refused r)
-last_by_plan p ts (Create table columns capacity shape) r h = absurd (cc h)
-last_by_plan p ts (Insert table columns values) r h = absurd (cc h)
-last_by_plan p ts (Update table sets search) r h = absurd (cc h)
-last_by_plan p ts (Delete table search) r h = absurd (cc h)
-last_by_plan p ts (DropTable table) r h = absurd (cc h)
 last_by_plan p ts (RowsStmt q) r h = go (accessed ts (RowsStmt q)) h
   where
     go : (o : Option Accessed) → (if is_some o then None else rows_refusal p (selected_places p q ts)) ≡ Some r → IsByPlan p (Refused r)
     go None h = by_plan p p.pad (selected_places p q ts) r refl h
     go (Some a) h = absurd (cc h)
-last_by_plan p ts (TotalsStmt q) r h = absurd (cc h)
+last_by_plan p ts other r h = absurd (cc h)
 
 -- ---- one statement
 -- as the meaning's, but for a refusal that comes last

@@ -39,13 +39,8 @@ module _ {A : Type 0} (name : List ℕ) (f g : A → A) where
 -- ---- the headings stay
 module _ (d : Draws) (p : Public) where
   settled_headings : (ts : Tables) (stmt : Stmt) → Inserts stmt → headings (settled d p ts stmt) ≡ headings ts
-  settled_headings ts (Create table columns capacity shape) inserts = absurd (cc inserts)
   settled_headings ts (Insert table columns values) inserts = headings_changed table _ ts
-  settled_headings ts (Update table sets search) inserts = absurd (cc inserts)
-  settled_headings ts (Delete table search) inserts = absurd (cc inserts)
-  settled_headings ts (DropTable table) inserts = absurd (cc inserts)
-  settled_headings ts (RowsStmt q) inserts = absurd (cc inserts)
-  settled_headings ts (TotalsStmt q) inserts = absurd (cc inserts)
+  settled_headings ts other inserts = absurd (cc inserts)
 
   pub settle_headings : (m : ℕ) (ts : Tables) (stmt : Stmt) → Inserts stmt → headings (settle d p m ts stmt) ≡ headings ts
   settle_headings m ts stmt inserts = by_access (accessed_now p m ts stmt)

@@ -49,14 +49,11 @@ module _ (p : Public) (name : List ℕ) (f : Stored ℕ → List Access) (leaf :
       go (Some t) found = of_shape t t.heading.shape (sym (region_index p name t found) ∙ indexed) ∙ ap asked (sym (height_is t found))
 
 access_asks : (p : Public) (s : Skeleton) (leaf : ℕ) → is_access p s ≡ true → length (whole_script p s (record (ended Whole) { leaf = Some leaf })) ≡ 2 * p.stash + 8 * (height_at p s + 1)
-access_asks p (CreateSkeleton table cs n shape) leaf keyed = absurd (cc keyed)
 access_asks p (InsertSkeleton table cs) leaf keyed = access_of p table (mutation_script p insert_part (behind_change p (InsertSkeleton table cs))) leaf keyed
 access_asks p (UpdateSkeleton table cs) leaf keyed = access_of p table (mutation_script p rewrite_part (behind_change p (UpdateSkeleton table cs))) leaf keyed
 access_asks p (DeleteSkeleton table) leaf keyed = access_of p table (mutation_script p rewrite_part (behind_change p (DeleteSkeleton table))) leaf keyed
-access_asks p (DropSkeleton table) leaf keyed = absurd (cc keyed)
 access_asks p (Rows (OneTable name) cs) leaf keyed = access_of p name (flat_script p (record (ended Whole) { leaf = Some leaf })) leaf keyed
-access_asks p (Rows (Join a b on equals) cs) leaf keyed = absurd (cc keyed)
-access_asks p (Groups table cs key) leaf keyed = absurd (cc keyed)
+access_asks p other leaf keyed = absurd (cc keyed)
 
 pub full_is_lawful : FullIsLawful
 full_is_lawful s stmt some same place full = go (accessed_now s.public s.asked s.tables stmt) refl full

@@ -225,17 +225,15 @@ height_public p ts stmt a e found = by stmt found
         ∙ ap (λ (o : Option (Stored Held)). option_map_or (λ (g : Heading). g.capacity) (option_map (λ u. u.heading) o) 0) is)
 
     by : (stmt : Stmt) → keyed_table ts stmt ≡ Some a.table → height_at p (skeleton stmt) ≡ height_of a.table.heading.capacity
-    by (Create table columns capacity shape) found = absurd (cc found)
     by (Insert table columns values) found = named table found
     by (Update table sets cond) found = named table found
     by (Delete table cond) found = named table found
-    by (DropTable table) found = absurd (cc found)
     by (RowsStmt q) found = of_source q.source found
       where
         of_source : (source : Source) → option_and_then (λ name. stored_at name ts) (one_table source) ≡ Some a.table → height_at p (Rows source q.list) ≡ height_of a.table.heading.capacity
         of_source (OneTable name) found = named name found
         of_source (Join l r on equals) found = absurd (cc found)
-    by (TotalsStmt q) found = absurd (cc found)
+    by other found = absurd (cc found)
 
 and_no : (b : Bool) → (b && false) ≡ false
 and_no true = refl
@@ -325,11 +323,6 @@ same_select : (p : Public) (now : Seen) (end : End) (g : ℕ) (t : _) (ending : 
 same_select p now end g t ending = ap (λ (x : List Access). count_part t.region (blocks_of p t) ++ x) (same_behind p.pad p now end g t ending)
 
 pub same_script : (p : Public) (s : Skeleton) (now : Seen) (end : End) → whole_script p s now ≡ whole_script p s (record now { end = end })
-same_script p (CreateSkeleton table cs n shape) now end = refl
-same_script p (InsertSkeleton table cs) now end = refl
-same_script p (UpdateSkeleton table cs) now end = refl
-same_script p (DeleteSkeleton table) now end = refl
-same_script p (DropSkeleton table) now end = refl
 same_script p (Rows (OneTable name) cs) now end =
     λ i. with_table name p (λ t. by_shape t.heading.shape (same_select p now end p.next_region (extent_of t) [] i) (index_part_of p now.leaf t))
 same_script p (Rows (Join left right on equals) cs) now end =
@@ -337,7 +330,7 @@ same_script p (Rows (Join left right on equals) cs) now end =
     let t = joined_extent p l.heading r.heading in
     join_part l.held r.held p.next_region (blocks_of p (extent_of l)) (blocks_of p (extent_of r)) (buffered_blocks p.pack p.buffer) (rows_width p t)
     ++ same_select p now end (p.next_region + 1) t (discard_at p.next_region) i))
-same_script p (Groups table cs key) now end = refl
+same_script p other now end = refl
 
 -- the result of a plan is read back behind the count, and a block at least is left to discard
 behind : (counted plan back ending : List Access) (last : Access) → length (counted ++ []) + (length ending + 1) ≤ length (counted ++ ((plan ++ (back ++ last ∷ [])) ++ ([] ++ ending)))
@@ -417,14 +410,9 @@ count_of_join p (Some left) (Some right) =
     omega (arith, h, a, b)
 
 count_within : (p : Public) (s : Skeleton) → count_end p s ≤ length (whole_script p s (ended Whole))
-count_within p (CreateSkeleton table cs n shape) = omega arith
-count_within p (InsertSkeleton table cs) = omega arith
-count_within p (UpdateSkeleton table cs) = omega arith
-count_within p (DeleteSkeleton table) = omega arith
-count_within p (DropSkeleton table) = omega arith
 count_within p (Rows (OneTable name) cs) = count_of_table p (stored_at name (stored_regions p.tables))
 count_within p (Rows (Join a b on equals) cs) = count_of_join p (stored_at a (stored_regions p.tables)) (stored_at b (stored_regions p.tables))
-count_within p (Groups table cs key) = omega arith
+count_within p other = omega arith
 
 -- a table of which no index has the name
 region_flat_by : (p : Public) (name : List ℕ) → has_index p name ≡ false → (t : Stored ℕ) → stored_at name (stored_regions p.tables) ≡ Some t → t.heading.shape ≡ Flat
@@ -579,14 +567,11 @@ stash_of p name f indexed = go (stored_at name (stored_regions p.tables)) refl
     go (Some t) found = of_shape t t.heading.shape (sym (region_index p name t found) ∙ indexed)
 
 stash_alone : (p : Public) (s : Skeleton) (end : End) → is_access p s ≡ true → length (whole_script p s (seen_of None None None end)) ≡ p.stash
-stash_alone p (CreateSkeleton table cs n shape) end yes = absurd (cc yes)
 stash_alone p (InsertSkeleton table cs) end yes = stash_of p table (mutation_script p insert_part (behind_change p (InsertSkeleton table cs))) yes
 stash_alone p (UpdateSkeleton table cs) end yes = stash_of p table (mutation_script p rewrite_part (behind_change p (UpdateSkeleton table cs))) yes
 stash_alone p (DeleteSkeleton table) end yes = stash_of p table (mutation_script p rewrite_part (behind_change p (DeleteSkeleton table))) yes
-stash_alone p (DropSkeleton table) end yes = absurd (cc yes)
 stash_alone p (Rows (OneTable name) cs) end yes = stash_of p name (flat_script p (seen_of None None None end)) yes
-stash_alone p (Rows (Join a b on equals) cs) end yes = absurd (cc yes)
-stash_alone p (Groups table cs key) end yes = absurd (cc yes)
+stash_alone p other end yes = absurd (cc yes)
 
 -- an access that was cut off asks for no more than what it held asks
 access_long : (p : Public) (s : Skeleton) (leaf n : ℕ) (more : Bool) → is_access p s ≡ true → nat_lt p.stash n ≡ more → n ≤ length (whole_script p s (record (ended Whole) { leaf = Some leaf }))

@@ -57,21 +57,16 @@ module _ (p q : Public) (along : GoesAlong p q) where
   index_along name = ap (λ (hs : List Heading). is_index hs name) along.headings
 
   drawn_along : (s : Skeleton) → drawn_by p s ≡ drawn_by q s
-  drawn_along (CreateSkeleton table cs n shape) = refl
   drawn_along (InsertSkeleton table cs) = ap (λ (b : Bool). if b then 1 else 0) (index_along table)
   drawn_along (UpdateSkeleton table cs) = ap (λ (b : Bool). if b then 1 else 0) (index_along table)
   drawn_along (DeleteSkeleton table) = ap (λ (b : Bool). if b then 1 else 0) (index_along table)
-  drawn_along (DropSkeleton table) = refl
   drawn_along (Rows (OneTable name) cs) = ap (λ (b : Bool). if b then 1 else 0) (index_along name)
-  drawn_along (Rows (Join a b on equals) cs) = refl
-  drawn_along (Groups table cs key) = refl
+  drawn_along other = refl
 
   taken_along : (s : Skeleton) (end : End) → draws_taken p s end ≡ draws_taken q s end
   taken_along s Static = refl
-  taken_along s Whole = drawn_along s
-  taken_along s AfterCount = drawn_along s
   taken_along s Joined = refl
-  taken_along s (Cut n) = drawn_along s
+  taken_along s other = drawn_along s
 
   moved_along : (name : List ℕ) → headings_of (moved name p.next_region p.tables) ≡ headings_of (moved name q.next_region q.tables)
   moved_along name = (moves name p.next_region p.tables).headings ∙ along.headings ∙ sym ((moves name q.next_region q.tables).headings)
@@ -90,11 +85,8 @@ module _ (p q : Public) (along : GoesAlong p q) where
   behind_along (Groups table cs key) = along.headings
 
   then_along : (s : Skeleton) (end : End) → headings_of (tables_then p s end) ≡ headings_of (tables_then q s end)
-  then_along s Static = along.headings
   then_along s Whole = behind_along s
-  then_along s AfterCount = along.headings
-  then_along s Joined = along.headings
-  then_along s (Cut n) = along.headings
+  then_along s other = along.headings
 
   next_along : (s : Skeleton) (x : Seen) → GoesAlong (next p s x) (next q s x)
   next_along s x = record { settings = along.settings; headings = then_along s x.end }
@@ -104,10 +96,6 @@ abbrev Names : List ℕ → Skeleton → Type 0
 Names table s = inserts_into s ≡ Some table
 
 still : (p : Public) (table : List ℕ) (s : Skeleton) (end : End) → Names table s → headings_of (tables_then p s end) ≡ headings_of p.tables
-still p table s Static names = refl
-still p table s AfterCount names = refl
-still p table s Joined names = refl
-still p table s (Cut n) names = refl
 still p table (CreateSkeleton name cs n shape) Whole names = absurd (cc names)
 still p table (InsertSkeleton name cs) Whole names = (moves name p.next_region p.tables).headings
 still p table (UpdateSkeleton name cs) Whole names = absurd (cc names)
@@ -115,24 +103,18 @@ still p table (DeleteSkeleton name) Whole names = absurd (cc names)
 still p table (DropSkeleton name) Whole names = absurd (cc names)
 still p table (Rows source cs) Whole names = absurd (cc names)
 still p table (Groups name cs key) Whole names = absurd (cc names)
+still p table s other names = refl
 
 drawn_none : (p : Public) (table : List ℕ) (s : Skeleton) → Names table s → has_index p table ≡ false → drawn_by p s ≡ 0
-drawn_none p table (CreateSkeleton name cs n shape) names flat = absurd (cc names)
 drawn_none p table (InsertSkeleton name cs) names flat =
     let same : name ≡ table = cc names in
     ap (λ (b : Bool). if b then 1 else 0) (ap (has_index p) same ∙ flat)
-drawn_none p table (UpdateSkeleton name cs) names flat = absurd (cc names)
-drawn_none p table (DeleteSkeleton name) names flat = absurd (cc names)
-drawn_none p table (DropSkeleton name) names flat = absurd (cc names)
-drawn_none p table (Rows source cs) names flat = absurd (cc names)
-drawn_none p table (Groups name cs key) names flat = absurd (cc names)
+drawn_none p table other names flat = absurd (cc names)
 
 taken_none : (p : Public) (table : List ℕ) (s : Skeleton) (end : End) → Names table s → has_index p table ≡ false → draws_taken p s end ≡ 0
 taken_none p table s Static names flat = refl
 taken_none p table s Joined names flat = refl
-taken_none p table s Whole names flat = drawn_none p table s names flat
-taken_none p table s AfterCount names flat = drawn_none p table s names flat
-taken_none p table s (Cut n) names flat = drawn_none p table s names flat
+taken_none p table s other names flat = drawn_none p table s names flat
 
 -- ---- what is gathered goes into a flat table
 abbrev IsFlatIn : Public → Option Gathering → Type 0

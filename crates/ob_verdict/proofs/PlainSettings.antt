@@ -36,11 +36,7 @@ module _ (p : Public) (ts : Tables) where
 
   forced_plain : (planner : Planner) (places : List ℕ) → forced_refusal (plain p) planner places ≡ forced_refusal p planner places
   forced_plain Auto places = refl
-  forced_plain Cheapest places = refl
-  forced_plain (Forced Small) places = refl
-  forced_plain (Forced Large) places = refl
-  forced_plain (Forced Continuous) places = refl
-  forced_plain (Forced Hash) places = refl
+  forced_plain other places = refl
 
   unpadded_plain : (places : List ℕ) → unpadded_refusal (plain p) places ≡ unpadded_refusal p places
   unpadded_plain [] = refl
@@ -51,22 +47,15 @@ module _ (p : Public) (ts : Tables) where
   refusal_plain (Some pad) places = refl
 
   last_plain : (stmt : Stmt) → last_refusal (plain p) ts stmt ≡ last_refusal p ts stmt
-  last_plain (Create table columns capacity shape) = refl
-  last_plain (Insert table columns values) = refl
-  last_plain (Update table sets cond) = refl
-  last_plain (Delete table cond) = refl
-  last_plain (DropTable table) = refl
   last_plain (RowsStmt q) =
       let same : rows_refusal (plain p) (selected_places (plain p) q ts) ≡ rows_refusal p (selected_places p q ts) =
       ap (refusal_by p.pad (plain p)) (places_plain q) ∙ refusal_plain p.pad (selected_places p q ts) in
       ap (λ (o : Option Refusal). if is_some (accessed ts (RowsStmt q)) then None else o) same
-  last_plain (TotalsStmt q) = refl
+  last_plain other = refl
 
   with_plain : (plan : Plan) (places : List ℕ) → seen_with (plain p) plan places ≡ seen_with p plan places
   with_plain Small places = refl
-  with_plain Large places = refl
-  with_plain Continuous places = refl
-  with_plain Hash places = refl
+  with_plain other places = refl
 
   unpadded_seen_plain : (n : ℕ) (places : List ℕ) → seen_unpadded (plain p) n places ≡ seen_unpadded p n places
   unpadded_seen_plain n [] = refl
@@ -77,25 +66,15 @@ module _ (p : Public) (ts : Tables) where
   seen_plain (Some pad) n places = refl
 
   started_plain : (stmt : Stmt) → seen_started (plain p) ts stmt ≡ seen_started p ts stmt
-  started_plain (Create table columns capacity shape) = refl
-  started_plain (Insert table columns values) = refl
-  started_plain (Update table sets cond) = refl
-  started_plain (Delete table cond) = refl
-  started_plain (DropTable table) = refl
   started_plain (RowsStmt q) =
       let slots = source_plain q.source in
       let places = places_plain q in
       (λ i. seen_by p.pad (plain p) (length (slots i)) (places i)) ∙ seen_plain p.pad (length (source_slots p q.source ts)) (selected_places p q ts)
-  started_plain (TotalsStmt q) = refl
+  started_plain other = refl
 
   settled_plain : (d : Draws) (stmt : Stmt) → settled d (plain p) ts stmt ≡ settled d p ts stmt
   settled_plain d (Create table columns capacity shape) = refl
-  settled_plain d (Insert table columns values) = refl
-  settled_plain d (Update table sets cond) = refl
-  settled_plain d (Delete table cond) = refl
-  settled_plain d (DropTable table) = refl
-  settled_plain d (RowsStmt q) = refl
-  settled_plain d (TotalsStmt q) = refl
+  settled_plain d other = refl
 
 -- by settings that are the same, and both late or neither
 module _ (d : Draws) (p q : Public) (settings : plain p ≡ plain q) (m n : ℕ) (late : is_late m ≡ is_late n) (ts : Tables) (stmt : Stmt) where

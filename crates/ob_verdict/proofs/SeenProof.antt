@@ -41,13 +41,8 @@ pub access_shows_leaf : AccessShowsLeaf
 access_shows_leaf d p m ts stmt a h is = seen-started d p m ts stmt h ∙ ap (λ o. seen_served d o p ts stmt) is
 
 started-kind : (p : Public) (ts : Tables) (stmt : Stmt) → selects_rows stmt ≡ false → seen_started p ts stmt ≡ ended Whole
-started-kind p ts (Create a b c d) h = refl
-started-kind p ts (Insert a b c) h = refl
-started-kind p ts (Update a b c) h = refl
-started-kind p ts (Delete a b) h = refl
-started-kind p ts (DropTable a) h = refl
 started-kind p ts (RowsStmt q) h = cc
-started-kind p ts (TotalsStmt q) h = refl
+started-kind p ts other h = refl
 
 pub shows_kind_alone : ShowsKindAlone
 shows_kind_alone d p m ts stmt h unkeyed k = seen-flat d p m ts stmt h unkeyed ∙ started-kind p ts stmt k
@@ -58,13 +53,8 @@ seen_by-padded None p n places h = absurd (cc)
 seen_by-padded (Some pad) p n places h = refl
 
 padded-kind : (p : Public) (ts : Tables) (stmt : Stmt) → IsSome p.pad → seen_started p ts stmt ≡ ended Whole
-padded-kind p ts (Create a b c d) h = refl
-padded-kind p ts (Insert a b c) h = refl
-padded-kind p ts (Update a b c) h = refl
-padded-kind p ts (Delete a b) h = refl
-padded-kind p ts (DropTable a) h = refl
 padded-kind p ts (RowsStmt q) h = seen_by-padded p.pad p _ _ h
-padded-kind p ts (TotalsStmt q) h = refl
+padded-kind p ts other h = refl
 
 pub padded_shows_kind : PaddedShowsKind
 padded_shows_kind d p m ts stmt h unkeyed padded = seen-flat d p m ts stmt h unkeyed ∙ padded-kind p ts stmt padded
@@ -84,10 +74,8 @@ ended-plan end x h = cc
 
 seen_with-plan : (p : Public) (plan : Plan) (places : List ℕ) → PlanEnds (seen_with p plan places)
 unfolding PlanEnds
-seen_with-plan p Small places = λ x h. (refl, refl)
-seen_with-plan p Large places = λ x h. (refl, refl)
 seen_with-plan p Continuous places = of_cond PlanEnds (is_consecutive places) _ _ (λ x h. (refl, refl)) (λ x h. cc)
-seen_with-plan p Hash places = λ x h. (refl, refl)
+seen_with-plan p other places = λ x h. (refl, refl)
 
 seen_unpadded-plan : (p : Public) (n : ℕ) (places : List ℕ) → PlanEnds (seen_unpadded p n places)
 unfolding PlanEnds
@@ -99,13 +87,8 @@ seen_by-plan None p n places = seen_unpadded-plan p n places
 seen_by-plan (Some pad) p n places = ended-plan Whole
 
 started-plan : (p : Public) (ts : Tables) (stmt : Stmt) → PlanEnds (seen_started p ts stmt)
-started-plan p ts (Create a b c d) = ended-plan Whole
-started-plan p ts (Insert a b c) = ended-plan Whole
-started-plan p ts (Update a b c) = ended-plan Whole
-started-plan p ts (Delete a b) = ended-plan Whole
-started-plan p ts (DropTable a) = ended-plan Whole
 started-plan p ts (RowsStmt q) = seen_by-plan p.pad p _ _
-started-plan p ts (TotalsStmt q) = ended-plan Whole
+started-plan p ts other = ended-plan Whole
 
 served-plan : (d : Draws) (o : Option Accessed) (p : Public) (ts : Tables) (stmt : Stmt) → PlanEnds (seen_served d o p ts stmt)
 unfolding PlanEnds
@@ -113,10 +96,8 @@ served-plan d None p ts stmt = started-plan p ts stmt
 served-plan d (Some a) p ts stmt = λ x h. cc
 
 seen_with-unread : (p : Public) (plan : Plan) (places : List ℕ) → (seen_with p plan places).leaf ≡ None
-seen_with-unread p Small places = refl
-seen_with-unread p Large places = refl
 seen_with-unread p Continuous places = of_cond (λ s. s.leaf ≡ None) (is_consecutive places) _ _ refl refl
-seen_with-unread p Hash places = refl
+seen_with-unread p other places = refl
 
 seen_by-unread : (pad : Option ℕ) (p : Public) (n : ℕ) (places : List ℕ) → (seen_by pad p n places).leaf ≡ None
 seen_by-unread None p n [] = refl
@@ -125,13 +106,8 @@ seen_by-unread (Some pad) p n places = refl
 
 -- a statement that accesses no index reads no leaf
 pub started-unread : (p : Public) (ts : Tables) (stmt : Stmt) → (seen_started p ts stmt).leaf ≡ None
-started-unread p ts (Create a b c e) = refl
-started-unread p ts (Insert a b c) = refl
-started-unread p ts (Update a b c) = refl
-started-unread p ts (Delete a b) = refl
-started-unread p ts (DropTable a) = refl
 started-unread p ts (RowsStmt q) = seen_by-unread p.pad p _ _
-started-unread p ts (TotalsStmt q) = refl
+started-unread p ts other = refl
 
 all-plan : (d : Draws) (p : Public) (m : ℕ) (ts : Tables) (stmt : Stmt) → PlanEnds (seen d p m ts stmt)
 unfolding PlanEnds
@@ -172,13 +148,9 @@ stored-not f (Some t) h = insert-not _ _ _ t.heading.shape h
 
 late-not : (s : ℕ) (db : Database) (stmt : Stmt) → NotSame (late_refusal s db stmt)
 unfolding NotSame
-late-not s db (Create a b c d) h = cc
 late-not s db (Insert table b c) h = stored-not (λ t. new_row t.heading.schema b c) (stored_at table db) h
-late-not s db (Update a b c) h = cc
-late-not s db (Delete a b) h = cc
-late-not s db (DropTable a) h = cc
-late-not s db (RowsStmt q) h = cc
 late-not s db (TotalsStmt q) h = groups-not _ h
+late-not s db other h = cc
 
 -- a plan's refusal: Continuous where the places are not consecutive, and never another
 overflow-not : (o : Option ℕ) → NotSame (option_map Overflow o)
@@ -250,25 +222,20 @@ late-shows : (p : Public) (ts : Tables) (stmt : Stmt) → accessed ts stmt ≡ N
 unfolding Shows NotSame
 late-shows p ts (Create a b c e) unkeyed = (λ e. cc, λ e. cc)
 late-shows p ts (Insert a b c) unkeyed = (λ e. cc, λ e. absurd (late-not (buffered p.pack p.buffer) (database ts) (Insert a b c) (or_none _ ∙ e)))
-late-shows p ts (Update a b c) unkeyed = (λ e. cc, λ e. cc)
-late-shows p ts (Delete a b) unkeyed = (λ e. cc, λ e. cc)
-late-shows p ts (DropTable a) unkeyed = (λ e. cc, λ e. cc)
 late-shows p ts (RowsStmt q) unkeyed =
     subst (λ (o : Option Accessed). Shows (seen_rows p (length (source_slots p q.source ts)) (selected_places p q ts)) (if is_some o then None else rows_refusal p (selected_places p q ts))) (sym unkeyed)
     (rows-shows p.pad p (length (source_slots p q.source ts)) (selected_places p q ts))
 late-shows p ts (TotalsStmt q) unkeyed =
     (λ e. cc, λ e. absurd (groups-not-either (overgroups (buffered p.pack p.buffer) q.group (totals_columns q (headings (database ts))) (totalled_rows q (database ts))) e))
+late-shows p ts other unkeyed = (λ e. cc, λ e. cc)
 
 access-not : (p : Public) (ts : Tables) (stmt : Stmt) (a : Accessed) → accessed ts stmt ≡ Some a → NotSame (option_or (late_refusal (buffered p.pack p.buffer) (database ts) stmt) (last_refusal p ts stmt))
 unfolding NotSame
-access-not p ts (Create a b c e) x is h = cc
 access-not p ts (Insert a b c) x is h = late-not (buffered p.pack p.buffer) (database ts) (Insert a b c) (or_none _ ∙ h)
-access-not p ts (Update a b c) x is h = cc
-access-not p ts (Delete a b) x is h = cc
-access-not p ts (DropTable a) x is h = cc
 access-not p ts (RowsStmt q) x is h =
     let none : None ≡ Some NotConsecutive = sym (ap (λ (o : Option Accessed). if is_some o then None else rows_refusal p (selected_places p q ts)) is) ∙ h in cc none
 access-not p ts (TotalsStmt q) x is h = groups-not-either (overgroups (buffered p.pack p.buffer) q.group (totals_columns q (headings (database ts))) (totalled_rows q (database ts))) h
+access-not p ts other x is h = cc
 
 served-shows : (d : Draws) (p : Public) (ts : Tables) (stmt : Stmt) (o : Option Accessed) → accessed ts stmt ≡ o
     → Shows (seen_served d o p ts stmt) (option_or (late_refusal (buffered p.pack p.buffer) (database ts) stmt) (last_refusal p ts stmt))
@@ -314,13 +281,8 @@ seen_by-second (Some pad) p n places = λ e. refl
 
 started-second : (p : Public) (ts : Tables) (stmt : Stmt) → NoSecond p.planner (seen_started p ts stmt)
 unfolding NoSecond
-started-second p ts (Create a b c d) = λ e. refl
-started-second p ts (Insert a b c) = λ e. refl
-started-second p ts (Update a b c) = λ e. refl
-started-second p ts (Delete a b) = λ e. refl
-started-second p ts (DropTable a) = λ e. refl
 started-second p ts (RowsStmt q) = seen_by-second p.pad p _ _
-started-second p ts (TotalsStmt q) = λ e. refl
+started-second p ts other = λ e. refl
 
 served-second : (d : Draws) (o : Option Accessed) (p : Public) (ts : Tables) (stmt : Stmt) → NoSecond p.planner (seen_served d o p ts stmt)
 unfolding NoSecond
@@ -376,13 +338,8 @@ by-plain None p n places e = unpadded-plain p n places e
 by-plain (Some pad) p n places e = whole-plain
 
 started-plain : (p : Public) (ts : Tables) (stmt : Stmt) → p.planner ≡ Cheapest → IsPlain (seen_started p ts stmt)
-started-plain p ts (Create a b c d) e = whole-plain
-started-plain p ts (Insert a b c) e = whole-plain
-started-plain p ts (Update a b c) e = whole-plain
-started-plain p ts (Delete a b) e = whole-plain
-started-plain p ts (DropTable a) e = whole-plain
 started-plain p ts (RowsStmt q) e = by-plain p.pad p _ _ e
-started-plain p ts (TotalsStmt q) e = whole-plain
+started-plain p ts other e = whole-plain
 
 served-plain : (d : Draws) (o : Option Accessed) (p : Public) (ts : Tables) (stmt : Stmt) → p.planner ≡ Cheapest → IsPlain (seen_served d o p ts stmt)
 unfolding IsPlain

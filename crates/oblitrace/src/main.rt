@@ -2,14 +2,20 @@
 //! status tells how that ended.
 #![tactic(auto)]
 
+use ob_help::{Program, told};
 use ob_io::{StdSink, StdSource};
 use ob_shell::meddle_top;
+use std::fs::File;
+use std::io::Write;
 use std::process::ExitCode;
 use std::rt::Env;
 use std::{env, io};
 
 /// The exit status where the words can't be had.
 const NO_WORDS: u8 = 7;
+
+/// The exit status where a text can't be written.
+const NO_SINK: u8 = 6;
 
 // The words of the command line, without the program's name.
 fn words<R: Env + AllocGlobal>(rt: &R) -> io::Result<Vec<String>> {
@@ -20,15 +26,45 @@ fn words<R: Env + AllocGlobal>(rt: &R) -> io::Result<Vec<String>> {
     Ok(words)
 }
 
-fn main(rt: HostRuntime) -> ExitCode {
-    let Ok(words) = words(&rt) else {
-        return ExitCode::from(NO_WORDS);
-    };
+// Writes a text, and ends well where it could be written.
+fn tell(rt: &HostRuntime, text: &str) -> ExitCode {
+    let stdout = rt.stdout();
+    let mut out = io::writer(&stdout);
+    match out.write_all(text.as_bytes()) {
+        Ok(()) => ExitCode::from(0),
+        Err(_) => ExitCode::from(NO_SINK),
+    }
+}
+
+// Serves the input.
+fn serve(rt: &HostRuntime, words: &[String]) -> ExitCode {
     let stdout = rt.stdout();
     let stderr = rt.stderr();
     let mut input = StdSource::new(rt.reader());
     let mut out = StdSink::new(io::writer(&stdout));
     let mut trace = StdSink::new(io::writer(&stderr));
-    let (report, _) = meddle_top(rt.alloc(), &words, &mut input, &mut out, &mut trace);
+    let (report, _) = meddle_top(rt.alloc(), words, &mut input, &mut out, &mut trace);
     ExitCode::from(report.status)
+}
+
+// What the words ask for: to be told of them, or a run.
+fn run(rt: &HostRuntime) -> ExitCode {
+    let Ok(words) = words(rt) else {
+        return ExitCode::from(NO_WORDS);
+    };
+    match told(rt.alloc(), Program::Oblitrace, &words) {
+        Ok(None) => serve(rt, &words),
+        Ok(Some(text)) => tell(rt, text.as_str()),
+        Err(_) => ExitCode::from(NO_WORDS),
+    }
+}
+
+// The descriptors of the standard streams that are closed are taken first, by what can be read, but not be written.
+fn main(rt: HostRuntime) -> ExitCode {
+    let _streams = (
+        File::open(&rt, "/"),
+        File::open(&rt, "/"),
+        File::open(&rt, "/"),
+    );
+    run(&rt)
 }

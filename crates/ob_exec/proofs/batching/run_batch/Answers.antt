@@ -1,8 +1,10 @@
-use Rattle.std.proofs.Common.{refl}
+use Rattle.ob_exec.proofs.Words.{is_due, Ok, refl, subst, ℕ, ◌≡◌}
 use Rattle.ob_exec.proofs.BatchRuns.{batch_then}
-use Rattle.ob_exec.proofs.FollowedRuns.{able_then, counted_then, forgotten_then, log_then, may_behind, may_then, saves_then}
+use Rattle.ob_exec.proofs.FollowedRuns.{able_then, answered_so, counted_then, forgotten_then, log_then, may_behind, may_then, saves_then, undue_then}
+use Rattle.ob_base.specs.declared.refusal.Refusal.TheVariants.{StoreFault}
+use Rattle.ob_exec.specs.GivenUp.{GaveUpFrom}
+use Rattle.ob_verdict.specs.declared.outcome.Outcome.TheVariants.{Refused}
 use Rattle.ob_exec.proofs.Shares.{share_batch}
-use Rattle.ob_exec.specs.Behind.{is_due}
 use Rattle.ob_exec.proofs.batching.run_batch.Goals as goal
 
 pub finish-requires : goal.finish-requires
@@ -62,3 +64,19 @@ returns-clause-listed g c =
     log_then state first rest ⊥ old s mid s1 c.requires.agrees c.requires.settled c.begin-begun.result c.begin-begun.ensures (g.B.Behind.Saves c.args.behind.now) c.requires.saves
     c.finish.result c.finish.new.engine (g.S.BlockStore.state c.finish.new.store) (g.B.Behind.state c.args.behind.now) (g.B.Behind.state c.finish.new.behind)
     answer (is_due c.begin-begun.result.saved answer mid.seen.end) refl share c.finish.ensures.behind
+
+pub returns-clause-given_up : goal.returns-clause-given_up
+returns-clause-given_up g c = λ is.
+    let state = g.R.Revisions.state in
+    let first = c.args.first.now in
+    let rest = c.args.rest.now in
+    let old = c.args.engine.now in
+    let s = g.S.BlockStore.state c.args.store.now in
+    let mid = c.insert_batch-answer.new.self in
+    let s1 = g.S.BlockStore.state c.insert_batch-answer.new.store in
+    let answer = c.insert_batch-answer.result in
+    let share = share_batch state first rest answer c.insert_batch-answer.new.outcomes old s mid s1 c.requires.batch c.insert_batch-answer.ensures.serves in
+    let answered : answer ≡ Ok (Refused StoreFault) = answered_so g.R.Revisions.state (is_due c.begin-begun.result.saved answer mid.seen.end) c.begin-begun.result answer c.finish.result mid s1 c.finish.new.engine (g.S.BlockStore.state c.finish.new.store)
+    (g.B.Behind.state c.args.behind.now) (g.B.Behind.state c.finish.new.behind) (Refused StoreFault) c.finish.ensures.behind is in
+    let undue = undue_then state first rest ⊥ old s mid s1 c.requires.agrees c.requires.settled c.begin-begun.result c.begin-begun.ensures answer share answered in
+    subst (λ (q : ℕ). GaveUpFrom q (g.S.BlockStore.given_up c.finish.new.store) (g.S.BlockStore.state c.finish.new.store)) c.begin-begun.ensures.next (c.finish.ensures.given_up undue is)

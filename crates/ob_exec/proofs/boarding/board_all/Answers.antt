@@ -1,9 +1,6 @@
-use Rattle.std.proofs.Common.{inl, inr, List, [], ◌∷◌, length, sym, ◌∙◌, ap, subst, arith, length-append}
-use Rattle.std.specs.Prelude.{slice_get}
+use Rattle.ob_exec.proofs.Words.{ap, arith, inl, inr, IsAboard, length, length-append, List, slice_get, Stmt, subst, sym, [], ◌∙◌, ◌∷◌}
 use Rattle.std.proofs.lemmas.Option.{get_or_from_slice_get}
-use Rattle.ob_sql.specs.declared.stmt.Stmt.{Stmt}
 use Rattle.ob_stages.specs.declared.flight.Flight.{Flight}
-use Rattle.ob_exec.specs.Boarding.{IsAboard}
 use Rattle.ob_exec.specs.InFlight.{FliesBy}
 use Rattle.ob_exec.proofs.FlightLists.{get_more}
 use Rattle.ob_exec.proofs.boarding.board_all.Goals as goal

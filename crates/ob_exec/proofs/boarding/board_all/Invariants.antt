@@ -1,8 +1,5 @@
-use Rattle.std.proofs.Common.{◌≡◌, ℕ, Some, length}
-use Rattle.std.specs.Prelude.{slice_get}
-use Rattle.ob_sql.specs.declared.stmt.Stmt.{Stmt}
+use Rattle.ob_exec.proofs.Words.{IsAboard, length, slice_get, Some, Stmt, ℕ, ◌≡◌}
 use Rattle.ob_stages.specs.declared.flight.Flight.{Flight}
-use Rattle.ob_exec.specs.Boarding.{IsAboard}
 use Rattle.ob_exec.proofs.boarding.board_all.Given as goal
 
 abbrev pub invariant-loop-stmt : goal.invariant-loop-stmt

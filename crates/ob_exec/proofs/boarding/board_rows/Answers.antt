@@ -1,8 +1,5 @@
-use Rattle.std.proofs.Common.{List, [], ◌++◌, sym, ◌∙◌, ap, subst}
+use Rattle.ob_exec.proofs.Words.{ap, Columns, IsFound, List, printed_places, subst, sym, [], ◌++◌, ◌∙◌}
 use Rattle.ob_base.specs.declared.schema.Table.{Table}
-use Rattle.ob_base.specs.Schemas.{Columns}
-use Rattle.ob_mean.specs.Step.{printed_places}
-use Rattle.ob_tables.specs.Engines.{IsFound}
 use Rattle.ob_exec.proofs.BoardRows.{rows_aboard, rows_flown, rows_own}
 use Rattle.ob_exec.proofs.boarding.board_rows.Goals as goal
 

@@ -1,6 +1,5 @@
-use Rattle.std.proofs.Common.{List, subst}
+use Rattle.ob_exec.proofs.Words.{IsFound, List, subst}
 use Rattle.ob_base.specs.declared.schema.Table.{Table}
-use Rattle.ob_tables.specs.Engines.{IsFound}
 use Rattle.ob_exec.proofs.BoardTotals.{groups_aboard, totals_aboard, totals_board}
 use Rattle.ob_exec.proofs.boarding.board_totals.Goals as goal
 

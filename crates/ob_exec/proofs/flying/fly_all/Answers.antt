@@ -1,16 +1,12 @@
-use Rattle.std.proofs.Common.{◌≡◌, ◌≤◌, ◌+◌, ◌-◌, ◌*◌, ◌/◌, ◌^◌, ℕ, Bool, true, List, length, map, Err, sym, ◌∙◌, ap, subst, arith}
+use Rattle.ob_exec.proofs.Words.{ap, arith, at_ok, Bool, count_of, engine_behind, Err, flight_kind, flight_progress, length, List, map, nat_le, RanFlight, rests_refl, Seen, subst, sym, true, world_of, ℕ, ◌*◌, ◌+◌, ◌-◌, ◌^◌, ◌∙◌, ◌≡◌, ◌≤◌}
+use Rattle.std.proofs.Common.{◌/◌}
 use Rattle.std.specs.List.{All}
-use Rattle.std.specs.Prelude.{nat_le}
 use Rattle.std.proofs.lemmas.List.{take_at}
-use Rattle.ob_base.specs.declared.seen.Seen.{Seen}
-use Rattle.ob_stages.specs.Flying.{flight_progress}
 use Rattle.ob_stages.specs.declared.flight.Flight.{Flight}
-use Rattle.ob_tables.specs.Agreeing.{count_of, world_of}
 use Rattle.ob_tables.specs.declared.stop.RunStop.TheVariants as Stops
-use Rattle.ob_tables.proofs.RunLemmas.{at_ok, rests_refl}
-use Rattle.ob_exec.specs.Boarding.{AreAboard, MaySetOff, engine_behind, flight_kind, seen_first}
+use Rattle.ob_exec.specs.Boarding.{AreAboard, MaySetOff, seen_first}
 use Rattle.ob_exec.specs.InFlight.{FliesBy}
-use Rattle.ob_exec.specs.RanFlight.{RanFlight, halted}
+use Rattle.ob_exec.specs.RanFlight.{halted}
 use Rattle.ob_exec.proofs.BoardOne.{late_same}
 use Rattle.ob_exec.proofs.FlightBoards.{booked_most, may_fly_by, may_set_off, rows_fit}
 use Rattle.ob_exec.proofs.FlightFlown.{flies_by}

@@ -1,11 +1,9 @@
-use Rattle.std.proofs.Common.{◌∙◌, List, ap, arith, false, sym, true}
-use Rattle.ob_base.specs.Stored.{headings_of}
-use Rattle.ob_base.specs.declared.config.Public.{Public}
+use Rattle.ob_exec.proofs.Words.{ap, arith, count_of, early_refusal, false, headings_of, limits_of, List, Public, sym, true, ◌∙◌}
 use Rattle.ob_base.specs.declared.schema.Table.{Table}
 use Rattle.ob_mean.specs.Batches.{batch_most}
-use Rattle.ob_mean.specs.Refusals.{early_refusal, is_index, limits_of}
+use Rattle.ob_mean.specs.Refusals.{is_index}
 use Rattle.ob_exec.proofs.GatheringLemmas.{begins_kept, begins_late, begins_none, begins_unrefused, flat_insert, no_insert, none_is}
-use Rattle.ob_tables.specs.Agreeing.{count_of, public_of}
+use Rattle.ob_tables.specs.Agreeing.{public_of}
 use Rattle.ob_exec.proofs.gathering.begins_batch.Goals as goal
 
 pub returns-in_default : goal.returns-in_default

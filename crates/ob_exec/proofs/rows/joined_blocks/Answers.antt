@@ -1,8 +1,6 @@
-use Rattle.std.proofs.Common.{◌≤◌, ◌-◌, ◌*◌, ◌/◌, arith, mul-le-mul}
-use Rattle.std.specs.Int.{div_ceil}
-use Rattle.ob_flat.proofs.Tables.{blocks_few}
+use Rattle.ob_exec.proofs.Words.{arith, blocks_few, div_ceil, some_buffered, ◌*◌, ◌-◌, ◌≤◌}
+use Rattle.std.proofs.Common.{◌/◌, mul-le-mul}
 use Rattle.ob_exec.proofs.rows.joined_blocks.Goals as goal
-use Rattle.ob_select.proofs.ResultParts.{some_buffered}
 
 pub returns-clause-few : goal.returns-clause-few
 returns-clause-few c =

@@ -1,23 +1,12 @@
-use Rattle.std.proofs.Common.{◌++◌, ℕ, List, length, Ok, Err, refl, sym, ◌∙◌, ap, subst, arith}
-use Rattle.std.specs.Prelude.{not}
-use Rattle.std.specs.List.{list_any}
-use Rattle.ob_base.specs.declared.skeleton.Source.{Source}
-use Rattle.ob_base.specs.Stored.{has_table, headings_of}
-use Rattle.ob_vault.specs.Places.{at}
+use Rattle.ob_exec.proofs.Words.{allowed, ap, arith, at, at_ok, count_of, Err, has_table, headings_of, is_late, left_place, length, limits_of, List, list_any, MaySelect, not, Ok, refl, rests_refl, Selection, SelectsFrom, Source, source_tables, subst, sym, ℕ, ◌++◌, ◌∙◌}
 use Rattle.ob_sql.specs.declared.stmt.Stmt.TheVariants.{SelectRows as RowsStmt}
-use Rattle.ob_names.specs.Names.{left_place, right_place}
-use Rattle.ob_mean.specs.Refusals.{source_tables, limits_of}
-use Rattle.ob_mean.specs.Verdict.{is_late}
-use Rattle.ob_mean.proofs.EarlyLemmas.{allowed}
-use Rattle.ob_tables.specs.Agreeing.{count_of}
-use Rattle.ob_select.specs.Selecting.{MaySelect, Selection, SelectsFrom}
+use Rattle.ob_names.specs.Names.{right_place}
 use Rattle.ob_exec.proofs.RowsJoin.{IsPaired, asks_few, slots_few, join_idle, join_may, join_of, join_query, join_some, join_starts}
 use Rattle.ob_exec.proofs.RowsJoinStart.{join_stops, join_selects}
 use Rattle.ob_exec.proofs.RowsJoinEnd.{join_ends, join_halts}
 use Rattle.ob_exec.proofs.RowsNothing.{halts_first}
 use Rattle.ob_exec.proofs.RowsRoom.{lives_after, room_twice}
 use Rattle.ob_tables.proofs.SourceColumns.{there_are}
-use Rattle.ob_tables.proofs.RunLemmas.{at_ok, rests_refl}
 use Rattle.ob_exec.proofs.rows.select_join.Goals as goal
 
 pub table_at-left-requires : goal.table_at-left-requires

@@ -1,11 +1,5 @@
-use Rattle.std.proofs.Common.{◌≡◌, ◌-◌, ℕ, length, Ok, Err, ◌∙◌, ap, subst}
-use Rattle.ob_base.specs.declared.seen.End.TheVariants.{Cut}
-use Rattle.ob_flat.specs.Passes.{SinkCause}
+use Rattle.ob_exec.proofs.Words.{answer_of, ap, Cut, Engine, Err, is_stop, length, Ok, Outcome, Selected, SinkCause, subst, ℕ, ◌-◌, ◌∙◌, ◌≡◌}
 use Rattle.ob_sql.specs.declared.stmt.Stmt.TheVariants.{SelectRows as RowsStmt}
-use Rattle.ob_tables.specs.declared.engine.Engine.{Engine}
-use Rattle.ob_verdict.specs.declared.outcome.Outcome.{Outcome}
-use Rattle.ob_select.specs.declared.selecting.Selected.{Selected}
-use Rattle.ob_tables.specs.Running.{answer_of, is_stop}
 use Rattle.ob_exec.proofs.RowsEnds.{serves_ended}
 use Rattle.ob_tables.proofs.ServeLemmas.{serves_same}
 use Rattle.ob_exec.proofs.RowsFound.{source_is}

@@ -1,21 +1,8 @@
-use Rattle.std.proofs.Common.{ℕ, List, refl, sym, ◌∙◌, ap, subst}
-use Rattle.std.specs.Prelude.{not}
-use Rattle.std.specs.Int.{div_ceil}
-use Rattle.std.specs.List.{list_any}
-use Rattle.ob_base.specs.declared.skeleton.Source.{Source}
-use Rattle.ob_base.specs.Stored.{has_table, headings_of}
+use Rattle.ob_exec.proofs.Words.{allowed, ap, at, at_ok, count_of, div_ceil, has_table, headings_of, is_late, is_there, limits_of, List, list_any, MaySelect, not, refl, rests_refl, Selection, SelectsFrom, Source, source_tables, subst, sym, world_of, ℕ, ◌∙◌}
 use Rattle.ob_sql.specs.declared.stmt.Stmt.TheVariants.{SelectRows as RowsStmt}
-use Rattle.ob_mean.specs.Refusals.{source_tables, limits_of}
-use Rattle.ob_mean.specs.Verdict.{is_late}
-use Rattle.ob_mean.proofs.EarlyLemmas.{allowed}
-use Rattle.ob_vault.specs.Places.{at}
 use Rattle.ob_flat.specs.declared.flat.Flat.{Flat}
-use Rattle.ob_tables.specs.Agreeing.{world_of, count_of}
-use Rattle.ob_select.specs.Selecting.{MaySelect, Selection, SelectsFrom}
-use Rattle.ob_tables.proofs.FoundLemmas.{is_there}
 use Rattle.ob_exec.proofs.RowsNothing.{halts_first}
 use Rattle.ob_exec.proofs.RowsTable.{counts_some, table_may, table_query, table_selects}
-use Rattle.ob_tables.proofs.RunLemmas.{rests_refl, at_ok}
 use Rattle.ob_exec.proofs.rows.select_table.Goals as goal
 
 pub table_at-flat-requires : goal.table_at-flat-requires

@@ -1,8 +1,9 @@
-use Rattle.std.proofs.Common.{[], refl}
-use Rattle.ob_exec.proofs.FollowedRuns.{able_then, counted_then, forgotten_then, may_behind, may_then, ran_then, saves_then}
+use Rattle.ob_exec.proofs.Words.{HasHalted, is_due, Ok, refl, subst, ℕ, [], ◌≡◌}
+use Rattle.ob_exec.proofs.FollowedRuns.{able_then, answered_so, counted_then, forgotten_then, may_behind, may_then, ran_then, saves_then, undue_then}
+use Rattle.ob_base.specs.declared.refusal.Refusal.TheVariants.{StoreFault}
+use Rattle.ob_exec.specs.GivenUp.{GaveUpFrom}
+use Rattle.ob_verdict.specs.declared.outcome.Outcome.TheVariants.{Refused}
 use Rattle.ob_exec.proofs.Shares.{share_alone}
-use Rattle.ob_exec.specs.Behind.{is_due}
-use Rattle.ob_select.specs.Memory.{HasHalted}
 use Rattle.ob_exec.proofs.running.run.Goals as goal
 
 pub finish-requires : goal.finish-requires
@@ -41,3 +42,17 @@ returns-clause-saves g c =
     may_behind g.R.Revisions.state c.args.stmt.now [] halts old s mid s1 c.requires.agrees c.requires.settled c.begin-begun.result c.begin-begun.ensures (g.B.Behind.Saves c.args.behind.now) c.requires.saves
     c.finish.result c.finish.new.engine (g.S.BlockStore.state c.finish.new.store) (g.B.Behind.state c.args.behind.now) (g.B.Behind.state c.finish.new.behind)
     (g.B.Behind.Saves c.finish.new.behind) answer (is_due c.begin-begun.result.saved answer mid.seen.end) refl share c.finish.ensures.behind c.finish.ensures.stays
+
+pub returns-clause-given_up : goal.returns-clause-given_up
+returns-clause-given_up g c = λ is.
+    let old = c.args.engine.now in
+    let s = g.S.BlockStore.state c.args.store.now in
+    let mid = c.serve-answer.new.engine in
+    let s1 = g.S.BlockStore.state c.serve-answer.new.store in
+    let answer = c.serve-answer.result in
+    let halts = HasHalted g.E.Emit.cut c.args.out.now c.serve-answer.new.out in
+    let share = share_alone g.R.Revisions.state g.E.Emit.grew g.E.Emit.cut g.E.Emit.faults c.args.stmt.now answer old s mid s1 c.args.out.now c.serve-answer.new.out c.serve-answer.ensures.serves c.serve-answer.ensures.shows in
+    let answered : answer ≡ Ok (Refused StoreFault) = answered_so g.R.Revisions.state (is_due c.begin-begun.result.saved answer mid.seen.end) c.begin-begun.result answer c.finish.result mid s1 c.finish.new.engine (g.S.BlockStore.state c.finish.new.store)
+    (g.B.Behind.state c.args.behind.now) (g.B.Behind.state c.finish.new.behind) (Refused StoreFault) c.finish.ensures.behind is in
+    let undue = undue_then g.R.Revisions.state c.args.stmt.now [] halts old s mid s1 c.requires.agrees c.requires.settled c.begin-begun.result c.begin-begun.ensures answer share answered in
+    subst (λ (q : ℕ). GaveUpFrom q (g.S.BlockStore.given_up c.finish.new.store) (g.S.BlockStore.state c.finish.new.store)) c.begin-begun.ensures.next (c.finish.ensures.given_up undue is)

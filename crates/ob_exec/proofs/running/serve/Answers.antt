@@ -1,17 +1,10 @@
-use Rattle.std.proofs.Common.{◌≡◌, false, List, Ok, refl, sym, ◌∙◌, ap, subst}
+use Rattle.ob_exec.proofs.Words.{ap, changes_tables, count_of, Create, Delete, Engine, false, Insert, List, Ok, Outcome, refl, Serves, skeleton, Stmt, subst, sym, Update, ◌∙◌, ◌≡◌}
 use Rattle.ob_base.specs.declared.skeleton.NewColumn.{NewColumn}
 use Rattle.ob_sql.specs.declared.stmt.Literal.{Literal}
 use Rattle.ob_sql.specs.declared.stmt.Set.{Set}
-use Rattle.ob_sql.specs.declared.stmt.Stmt.{Stmt}
-use Rattle.ob_sql.specs.declared.stmt.Stmt.TheVariants.{Create, Insert, Update, Delete, Drop as DropTable}
+use Rattle.ob_sql.specs.declared.stmt.Stmt.TheVariants.{Drop as DropTable}
 use Rattle.ob_mean.specs.Verdict.{ended as seen_to}
-use Rattle.ob_script.specs.Script.{changes_tables}
-use Rattle.ob_sql.specs.Skeleton.{skeleton}
-use Rattle.ob_tables.specs.Agreeing.{count_of}
-use Rattle.ob_verdict.specs.declared.outcome.Outcome.{Outcome}
 use Rattle.ob_tables.specs.Running.{HasNoRows}
-use Rattle.ob_tables.specs.Serving.{Serves}
-use Rattle.ob_tables.specs.declared.engine.Engine.{Engine}
 use Rattle.ob_tables.proofs.RunLemmas.{unsaved}
 use Rattle.ob_tables.proofs.ServeLemmas.{served_as, serves_refused, serves_same}
 use Rattle.ob_tables.proofs.ToldLemmas.{now_is}

@@ -1,14 +1,7 @@
-use Rattle.std.proofs.Common.{◌≡◌, ◌≤◌, ◌-◌, ◌++◌, ℕ, Bool, List, length, Result, Ok, Err, refl, sym, ◌∙◌, ap, subst, arith, length-append}
-use Rattle.std.specs.Prelude.{◌&&◌}
-use Rattle.ob_base.specs.declared.access.Access.{Access}
-use Rattle.ob_base.specs.declared.seen.End.{End}
-use Rattle.ob_base.specs.declared.seen.Seen.{Seen}
-use Rattle.ob_exec.specs.Behind.{SavesBehind, ended_at, is_due}
+use Rattle.ob_exec.proofs.Words.{Access, ap, arith, Bool, End, ended_at, Err, is_due, length, length-append, List, Ok, Outcome, refl, Result, RunStop, SavesTables, Seen, StoreState, subst, sym, ℕ, ◌&&◌, ◌++◌, ◌-◌, ◌∙◌, ◌≡◌, ◌≤◌}
+use Rattle.ob_exec.specs.Behind.{SavesBehind}
 use Rattle.ob_exec.specs.Ran.{is_whole}
-use Rattle.ob_exec.specs.Saving.{MayBeSaved, SavesTables}
-use Rattle.ob_store.specs.State.{StoreState}
-use Rattle.ob_tables.specs.declared.stop.RunStop.{RunStop}
-use Rattle.ob_verdict.specs.declared.outcome.Outcome.{Outcome}
+use Rattle.ob_exec.specs.Saving.{MayBeSaved}
 use Rattle.ob_exec.proofs.saving.finish.Goals as goal
 
 -- whether tables are due to be saved behind a statement that was answered
@@ -101,3 +94,20 @@ returns-in-Err-save-clause-behind g c =
       saves = subst (λ (u : StoreState). SavesTables {T = Unit {0}} g.R.Revisions.state c.args.begun.left (Err c.in-Err-save.stop) e u last t k0 k1) c.leave_forgotten.ensures.same (c.in-Err-save.ensures.saves (c.requires.wants due));
       ends = (refl, c.end_at.ensures ∙ ap (λ (n : ℕ). ended_at (n - c.args.begun.accesses) last) c.count.ensures);
     })
+
+-- ---- what is given up
+pub returns-in-Err-clause-given_up : goal.returns-in-Err-clause-given_up
+returns-in-Err-clause-given_up g c = λ undue is. absurd (cc is)
+
+pub returns-then-not-is_saved_behind-clause-given_up : goal.returns-then-not-is_saved_behind-clause-given_up
+returns-then-not-is_saved_behind-clause-given_up g c = λ undue is. c.leave_forgotten.ensures.given_up (cc is)
+
+pub returns-in-Ok-save-clause-given_up : goal.returns-in-Ok-save-clause-given_up
+returns-in-Ok-save-clause-given_up g c = λ undue is.
+    let e = c.args.engine.now in
+    let now_is : c.is_saved_behind.result ≡ (is_whole e.seen.end && c.args.begun.saved) = c.is_saved_behind.ensures ∙ ap (λ (x : Seen). is_whole x.end && c.args.begun.saved) c.seen.ensures in
+    let due = due_is c.args.begun.saved c.is_saved_behind.result c.args.answer c.in-Ok.outcome e.seen.end c.in-Ok.is now_is ∙ c.if-not-is_saved_behind.false in
+    absurd (cc (due, undue))
+
+pub returns-in-Err-save-clause-given_up : goal.returns-in-Err-save-clause-given_up
+returns-in-Err-save-clause-given_up g c = λ undue is. absurd (cc is)

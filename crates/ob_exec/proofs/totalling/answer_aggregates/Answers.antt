@@ -1,9 +1,5 @@
-use Rattle.std.proofs.Common.{List, [], ◌∷◌, length, map, take, Err, sym, ◌∙◌, subst}
-use Rattle.ob_base.specs.declared.shown.Shown.{Shown}
-use Rattle.ob_base.specs.Events.{Head, Row, Close, Leads}
-use Rattle.ob_base.specs.Limits.{buffered}
-use Rattle.ob_vault.specs.Places.{at}
-use Rattle.ob_flat.specs.declared.fault.OpErr.{OpErr}
+use Rattle.ob_exec.proofs.Words.{at, buffered, Close, Err, Head, Leads, length, List, map, OpErr, Shown, subst, sym, take, [], ◌∙◌, ◌∷◌}
+use Rattle.ob_base.specs.Events.{Row}
 use Rattle.ob_group.specs.Steps.{EmitsAll}
 use Rattle.ob_stages.specs.Totalling.{agg_at}
 use Rattle.ob_exec.specs.Totalling.{Totals}

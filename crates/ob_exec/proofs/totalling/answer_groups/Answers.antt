@@ -1,7 +1,4 @@
-use Rattle.std.proofs.Common.{length, map, take, Err, sym, ◌∙◌, ap, subst, append-nil}
-use Rattle.ob_base.specs.Limits.{buffered}
-use Rattle.ob_vault.specs.Places.{at}
-use Rattle.ob_flat.specs.declared.fault.OpErr.{OpErr}
+use Rattle.ob_exec.proofs.Words.{ap, append-nil, at, buffered, Err, length, map, OpErr, subst, sym, take, ◌∙◌}
 use Rattle.ob_names.specs.Names.{place_of}
 use Rattle.ob_mean.specs.Step.{item_of}
 use Rattle.ob_exec.specs.Totalling.{Totals}

@@ -1,19 +1,7 @@
-use Rattle.std.specs.Int.{div_ceil}
-use Rattle.std.proofs.Common.{◌≡◌, ◌≤◌, ◌-◌, ℕ, IfSome, length, Ok, Err, sym, ◌∙◌, ap, subst, append-nil}
-use Rattle.ob_base.specs.Limits.{buffered}
-use Rattle.ob_base.specs.Stored.{has_table, headings_of}
-use Rattle.ob_vault.specs.Places.{at}
+use Rattle.ob_exec.proofs.Words.{allowed, ap, append-nil, at, at_ok, buffered, count_of, div_ceil, Err, has_table, headings_of, IfSome, is_late, is_there, length, limits_of, Ok, Outcome, rests_refl, subst, sym, where_at, ℕ, ◌-◌, ◌∙◌, ◌≡◌, ◌≤◌}
 use Rattle.ob_flat.specs.declared.flat.Flat.{Flat}
 use Rattle.ob_sql.specs.declared.stmt.Stmt.TheVariants.{SelectTotals as TotalsStmt}
-use Rattle.ob_mean.specs.Conditions.{where_at}
-use Rattle.ob_mean.specs.Verdict.{is_late}
-use Rattle.ob_mean.proofs.EarlyLemmas.{allowed}
-use Rattle.ob_mean.specs.Refusals.{limits_of}
-use Rattle.ob_tables.specs.Agreeing.{count_of}
-use Rattle.ob_verdict.specs.declared.outcome.Outcome.{Outcome}
 use Rattle.ob_exec.specs.Totalling.{Totals}
-use Rattle.ob_tables.proofs.FoundLemmas.{is_there}
-use Rattle.ob_tables.proofs.RunLemmas.{at_ok, rests_refl}
 use Rattle.ob_tables.proofs.ServeLemmas.{serves_same}
 use Rattle.ob_exec.proofs.TotalsServed.{may_total, serves_cut, serves_done, serves_none}
 use Rattle.ob_exec.proofs.totals.select_totals.Goals as goal

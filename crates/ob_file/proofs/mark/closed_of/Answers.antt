@@ -1,5 +1,5 @@
 use Rattle.std.proofs.Common.{◌≡◌, ◌∙◌, Some, codes, arith}
-use Rattle.ob_base.specs.declared.mark.Mark.TheVariants.{Closed}
+use Rattle.ob_reopen.specs.declared.mark.Mark.TheVariants.{Closed}
 use Rattle.ob_file.proofs.MarkLemmas.{after_region, after_blocks, after_number, marked_as}
 use Rattle.ob_file.proofs.mark.closed_of.Goals as goal
 

@@ -1,7 +1,7 @@
 use Rattle.std.proofs.Common.{◌≡◌, ◌∙◌, Ok, refl, sym, ap, subst, arith}
 use Rattle.std.proofs.lemmas.Bool.Decides.{nat_tests}
-use Rattle.ob_base.specs.declared.mark.Mark.{Mark}
-use Rattle.ob_base.specs.declared.mark.Mark.TheVariants.{Fresh, Closed}
+use Rattle.ob_reopen.specs.declared.mark.Mark.{Mark}
+use Rattle.ob_reopen.specs.declared.mark.Mark.TheVariants.{Fresh, Closed}
 use Rattle.ob_tables.specs.Agreeing.{AreDraws, first_draws}
 use Rattle.ob_headline.specs.Keeping.{EndsFrom, closing_named}
 use Rattle.ob_reopen.specs.Keepers.{IsMark}

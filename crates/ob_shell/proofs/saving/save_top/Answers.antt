@@ -2,11 +2,11 @@ use Rattle.std.specs.Prelude.{codes, string_bytes}
 use Rattle.std.proofs.Common.{Some, None, Err, map, refl, sym, ◌∙◌, ap}
 use Rattle.ob_headline.proofs.SettingLemmas.{unsaved_settings}
 use Rattle.ob_headline.specs.Usage.{saved_usage}
-use Rattle.ob_shell.proofs.CloseLemmas.{reported_taken}
-use Rattle.ob_shell.proofs.GeneratingLemmas.{asked_is, summarized}
-use Rattle.ob_shell.proofs.HeadLemmas.{headlined}
+use Rattle.ob_shell.proofs.GeneratingLemmas.{asked_is}
 use Rattle.ob_shell.proofs.KeptGenLemmas.{kept_summarized}
 use Rattle.ob_shell.proofs.KeptLemmas.{kept_headlined}
+use Rattle.ob_shell.proofs.SaltedGenLemmas.{salted_summarized}
+use Rattle.ob_shell.proofs.SaltedHeadLemmas.{salted_headlined}
 use Rattle.ob_shell.proofs.SavedGenLemmas.{keeps_or_saves, keeps_or_saves_unread, saved_summarized}
 use Rattle.ob_shell.proofs.SavedHeadLemmas.{saved_headlined}
 use Rattle.ob_shell.proofs.saving.save_top.Goals as goal
@@ -58,15 +58,17 @@ pub returns-in-None-generated-2-clause-ran : goal.returns-in-None-generated-2-cl
 returns-in-None-generated-2-clause-ran g c =
     let words = map string_bytes c.args.words.now in
     let read = c.in-Ok.ensures in
+    let closes = c.close_kept-in-None-generated-2.ensures in
     keeps_or_saves _ _ _ _ _ _ _ _ _ _ _ _ _ _ None (sym read.save ∙ c.if-words.false) (sym read.keep ∙ c.if-words-2.false) (asked_is saved_usage words read.generated c.in-None-generated-2.is)
-    (headlined _ _ _ _ _ _ c.requires.fresh (reported_taken (c.in-Ok.words.common.config, read.ok) read.ok.settings (rw (read.trace, read.flight) at c.serve_over.ensures.reported.1)) (rw read.trace at c.serve_over.ensures.traced), refl)
+    (salted_headlined _ _ c.in-Ok.words.common.config (c.in-Ok.words.common.config, read.ok) read.ok.settings _ _ _ c.run_salted-ended.result _ _ _ _ c.close_kept-in-None-generated-2.result closes.status closes.high closes.quiet closes.line c.requires.fresh
+    (rw (read.trace, read.flight) at c.run_salted-ended.ensures.ran))
 
 pub returns-in-Some-generated-2-clause-ran : goal.returns-in-Some-generated-2-clause-ran
 returns-in-Some-generated-2-clause-ran g c =
     let words = map string_bytes c.args.words.now in
     let read = c.in-Ok.ensures in
     keeps_or_saves _ _ _ _ _ _ _ _ _ _ _ _ _ _ (Some c.in-Some-generated-2.seed) (sym read.save ∙ c.if-words.false) (sym read.keep ∙ c.if-words-2.false) (asked_is saved_usage words read.generated c.in-Some-generated-2.is)
-    (summarized _ (c.in-Ok.words.common.config, read.ok) read.ok.settings c.requires.fresh (rw (read.trace, read.flight) at c.serve_generated.ensures), refl)
+    (salted_summarized _ (c.in-Ok.words.common.config, read.ok) read.ok.settings c.requires.fresh (rw (read.trace, read.flight) at c.salt_generated.ensures))
 
 pub run_kept-ended-requires-clause-kept : goal.run_kept-ended-requires-clause-kept
 run_kept-ended-requires-clause-kept g c =

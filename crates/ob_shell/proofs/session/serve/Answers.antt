@@ -1,162 +1,19 @@
-use Rattle.std.proofs.Common.{◌≡◌, Err, Ok, ap, inl, ◌∙◌}
-use Rattle.ob_gen.specs.declared.tally.Tally.{Tally}
-use Rattle.ob_shell.proofs.CountLemmas.{same_cause}
-use Rattle.ob_shell.proofs.GatherLemmas.{are_batched}
-use Rattle.ob_shell.proofs.RunLemmas.{ran_flushed, ran_from, ran_unflushed}
-use Rattle.ob_shell.proofs.ServedLemmas.{alone_read, source_later, stop_stays, waited_quiet, waited_stops}
+use Rattle.std.proofs.Common.{rules}
+use Rattle.ob_shell.proofs.RunLemmas.{ran_over}
 use Rattle.ob_shell.proofs.TakesLemmas.{ready_with}
-use Rattle.ob_shell.proofs.TraceLemmas.{traced_cut, traced_then, traced_whole}
 use Rattle.ob_shell.proofs.session.serve.Goals as goal
-use Rattle.ob_shell.specs.Flying.{flights_of}
-use Rattle.ob_shell.specs.declared.session.Break.TheVariants.{Served, Unread}
-use Rattle.ob_tables.specs.Agreeing.{count_of, public_of}
-use Rattle.ob_tables.specs.Stops.{session_stop}
 
-pub read_texts-read-requires : goal.read_texts-read-requires
-read_texts-read-requires g c = record { none = c.new-2.ensures.items; fresh = c.new.ensures; uncounted = c.new-3.ensures; ready = ready_with c.requires.ready; fed_by = c.requires.fed_by; took = c.requires.took }
+pub serve_feed-requires : goal.serve_feed-requires
+serve_feed-requires g c = record {
+  none = c.new-2.ensures.items;
+  fresh = c.new.ensures;
+  uncounted = c.new-3.ensures;
+  ready = rw c.new-server.ensures (record { ready = ready_with c.requires.ready; took = c.requires.took });
+  fed_by = c.requires.fed_by;
+}
 
-pub flush-requires : goal.flush-requires
-flush-requires g c =
-    let e = c.read_texts-read.new.engine in
-    let stands = c.in-Ok.ensures.stands in
-    record { waits = are_batched c.args.flight (public_of e) (count_of e (g.S.BlockStore.state c.read_texts-read.new.store)) c.read_texts-read.new.session.batch.items stands.waits; ready = stands.ready; took = stands.took }
-
-pub flush-requires-in-Err-Unread : goal.flush-requires-in-Err-Unread
-flush-requires-in-Err-Unread g c =
-    let unread : c.read_texts-read.result ≡ Err (Unread c.in-Err-Unread.stop) = c.in-Err-Unread.is ∙ ap Err (rw c.in-Err-Unread.is at c.in-Err-Unread.field-0-is) in
-    let e = c.read_texts-read.new.engine in
-    let stands = rw unread at c.read_texts-read.ensures.stands in
-    record { waits = are_batched c.args.flight (public_of e) (count_of e (g.S.BlockStore.state c.read_texts-read.new.store)) c.read_texts-read.new.session.batch.items stands.waits; ready = stands.ready; took = stands.took }
-
-pub returns-in-Ok-flush-clause-ran : goal.returns-in-Ok-flush-clause-ran
-returns-in-Ok-flush-clause-ran g c =
-    let flushed = rw c.in-Ok-flush.ensures.none at c.in-Ok-flush.ensures.takes in
-    (flights_of c.args.flight c.flush.new.session.turns.last, ran_from c.args.engine.now (g.S.BlockStore.state c.args.store.now) (g.B.Behind.state c.args.behind.now) c.args.flight c.turns_of.result.last c.turns_of.ensures (ran_flushed (Ok tt) c.in-Ok.ensures.reads flushed.done flushed.traced))
-
-pub returns-in-Ok-clause-ran : goal.returns-in-Ok-clause-ran
-returns-in-Ok-clause-ran g c = rw c.from.ensures (flights_of c.args.flight c.flush.new.session.turns.last, ran_from c.args.engine.now (g.S.BlockStore.state c.args.store.now) (g.B.Behind.state c.args.behind.now) c.args.flight c.turns_of.result.last c.turns_of.ensures (ran_unflushed (Ok tt) c.in-Err.halted.stop c.in-Ok.ensures.reads c.in-Ok.ensures.stands.waits (rw c.in-Ok.ensures.quiet.0 at c.in-Err.ensures.takes.stopped)))
-
-pub returns-in-Ok-flush-2-clause-ran : goal.returns-in-Ok-flush-2-clause-ran
-returns-in-Ok-flush-2-clause-ran g c =
-    let unread : c.read_texts-read.result ≡ Err (Unread c.in-Err-Unread.stop) = c.in-Err-Unread.is ∙ ap Err (rw c.in-Err-Unread.is at c.in-Err-Unread.field-0-is) in
-    let reads = rw unread at c.read_texts-read.ensures.reads in
-    let flushed = rw c.in-Ok-flush-2.ensures.none at c.in-Ok-flush-2.ensures.takes in
-    (flights_of c.args.flight c.flush-in-Err-Unread.new.session.turns.last, ran_from c.args.engine.now (g.S.BlockStore.state c.args.store.now) (g.B.Behind.state c.args.behind.now) c.args.flight c.turns_of.result.last c.turns_of.ensures (ran_flushed (Err c.in-Err-Unread.stop) reads flushed.done flushed.traced))
-
-pub returns-in-Err-Unread-clause-ran : goal.returns-in-Err-Unread-clause-ran
-returns-in-Err-Unread-clause-ran g c =
-    let unread : c.read_texts-read.result ≡ Err (Unread c.in-Err-Unread.stop) = c.in-Err-Unread.is ∙ ap Err (rw c.in-Err-Unread.is at c.in-Err-Unread.field-0-is) in
-    let reads = rw unread at c.read_texts-read.ensures.reads in
-    let stands = rw unread at c.read_texts-read.ensures.stands in
-    let quiet = rw unread at c.read_texts-read.ensures.quiet in
-    let stopped = rw quiet.0 at c.in-Err-flush.ensures.takes.stopped in
-    rw c.from-in-Err-flush.ensures (flights_of c.args.flight c.flush-in-Err-Unread.new.session.turns.last, ran_from c.args.engine.now (g.S.BlockStore.state c.args.store.now) (g.B.Behind.state c.args.behind.now) c.args.flight c.turns_of.result.last c.turns_of.ensures (ran_unflushed (Err c.in-Err-Unread.stop) c.in-Err-flush.halted.stop reads stands.waits stopped))
-
+-- what the server referred to has come to what it has
 pub returns-clause-ran : goal.returns-clause-ran
 returns-clause-ran g c =
-    let served : c.read_texts-read.result ≡ Err (Served c.in-Err-Served.halted) = c.in-Err-Served.is ∙ ap Err (rw c.in-Err-Served.is at c.in-Err-Served.field-0-is) in
-    let reads = rw served at c.read_texts-read.ensures.reads in
-    rw c.from-in-Err-Served.ensures (flights_of c.args.flight c.read_texts-read.new.session.turns.last, ran_from c.args.engine.now (g.S.BlockStore.state c.args.store.now) (g.B.Behind.state c.args.behind.now) c.args.flight c.turns_of.result.last c.turns_of.ensures reads)
-
--- ---- what rose, and what may still be written
-pub returns-in-Ok-flush-clause-traced : goal.returns-in-Ok-flush-clause-traced
-returns-in-Ok-flush-clause-traced g c = traced_whole _ (traced_then c.in-Ok.ensures.reads.traced c.in-Ok-flush.ensures.takes.traced)
-
-pub returns-in-Ok-flush-2-clause-traced : goal.returns-in-Ok-flush-2-clause-traced
-returns-in-Ok-flush-2-clause-traced g c =
-    let unread : c.read_texts-read.result ≡ Err (Unread c.in-Err-Unread.stop) = c.in-Err-Unread.is ∙ ap Err (rw c.in-Err-Unread.is at c.in-Err-Unread.field-0-is) in
-    let reads = rw unread at c.read_texts-read.ensures.reads in
-    traced_whole _ (traced_then reads.traced c.in-Ok-flush-2.ensures.takes.traced)
-
-pub returns-in-Ok-clause-traced : goal.returns-in-Ok-clause-traced
-returns-in-Ok-clause-traced g c = rw c.from.ensures (traced_cut c.in-Ok.ensures.reads.traced c.in-Err.ensures.takes.traced_stop)
-
-pub returns-in-Err-Unread-clause-traced : goal.returns-in-Err-Unread-clause-traced
-returns-in-Err-Unread-clause-traced g c =
-    let unread : c.read_texts-read.result ≡ Err (Unread c.in-Err-Unread.stop) = c.in-Err-Unread.is ∙ ap Err (rw c.in-Err-Unread.is at c.in-Err-Unread.field-0-is) in
-    let reads = rw unread at c.read_texts-read.ensures.reads in
-    rw c.from-in-Err-flush.ensures (traced_cut reads.traced c.in-Err-flush.ensures.takes.traced_stop)
-
-pub returns-clause-traced : goal.returns-clause-traced
-returns-clause-traced g c =
-    let served : c.read_texts-read.result ≡ Err (Served c.in-Err-Served.halted) = c.in-Err-Served.is ∙ ap Err (rw c.in-Err-Served.is at c.in-Err-Served.field-0-is) in
-    let traced = rw served at c.read_texts-read.ensures.traced in
-    rw c.from-in-Err-Served.ensures traced
-
-pub returns-in-Ok-flush-clause-cause : goal.returns-in-Ok-flush-clause-cause
-returns-in-Ok-flush-clause-cause g c =
-    let before = c.in-Ok.ensures.cause in
-    let now = c.in-Ok-flush.ensures.takes.cause in
-    record { source = before.source; out = now.out ∙ before.out; trace = now.trace ∙ before.trace }
-
-pub returns-in-Ok-flush-2-clause-cause : goal.returns-in-Ok-flush-2-clause-cause
-returns-in-Ok-flush-2-clause-cause g c =
-    let unread : c.read_texts-read.result ≡ Err (Unread c.in-Err-Unread.stop) = c.in-Err-Unread.is ∙ ap Err (rw c.in-Err-Unread.is at c.in-Err-Unread.field-0-is) in
-    let cause = rw unread at c.read_texts-read.ensures.cause in
-    let now = c.in-Ok-flush-2.ensures.takes.cause in
-    let there = c.read_texts-read.new in
-    let end = c.flush-in-Err-Unread.new in
-    same_cause _ (Unit {0}) Tally c.in-Err-Unread.stop _ _
-    (stop_stays (Unit {0}) _ c.in-Err-Unread.stop (g.I.Source.faults c.args.input.now) (g.I.Source.faults there.input) (g.K.Sink.faults c.args.out.now, g.T.Sink.faults c.args.trace.now) (g.K.Sink.faults there.out, g.T.Sink.faults there.trace)
-    (g.K.Sink.faults end.out, g.T.Sink.faults end.trace) now.out now.trace cause)
-
-pub returns-in-Ok-clause-cause : goal.returns-in-Ok-clause-cause
-returns-in-Ok-clause-cause g c =
-    let before = c.in-Ok.ensures.cause in
-    let there = c.read_texts-read.new in
-    let end = c.flush.new in
-    rw c.from.ensures
-    (waited_stops (Unit {0}) Tally _ c.in-Err.halted.stop (g.I.Source.faults c.args.input.now) (g.I.Source.faults there.input) (g.K.Sink.faults c.args.out.now, g.T.Sink.faults c.args.trace.now) (g.K.Sink.faults there.out, g.T.Sink.faults there.trace)
-    (g.K.Sink.faults end.out, g.T.Sink.faults end.trace) (λ alone. before.source, inl before.source) before.out before.trace c.in-Err.ensures.takes.cause)
-
--- the source may have failed before one of them was stopped, where INSERTs are served together
-pub returns-in-Err-Unread-clause-cause : goal.returns-in-Err-Unread-clause-cause
-returns-in-Err-Unread-clause-cause g c =
-    let unread : c.read_texts-read.result ≡ Err (Unread c.in-Err-Unread.stop) = c.in-Err-Unread.is ∙ ap Err (rw c.in-Err-Unread.is at c.in-Err-Unread.field-0-is) in
-    let reads = rw unread at c.read_texts-read.ensures.reads in
-    let stands = rw unread at c.read_texts-read.ensures.stands in
-    let cause = rw unread at c.read_texts-read.ensures.cause in
-    let quiet = rw unread at c.read_texts-read.ensures.quiet in
-    let there = c.read_texts-read.new in
-    let end = c.flush-in-Err-Unread.new in
-    rw c.from-in-Err-flush.ensures
-    (waited_stops (Unit {0}) Tally _ c.in-Err-flush.halted.stop (g.I.Source.faults c.args.input.now) (g.I.Source.faults there.input) (g.K.Sink.faults c.args.out.now, g.T.Sink.faults c.args.trace.now) (g.K.Sink.faults there.out, g.T.Sink.faults there.trace)
-    (g.K.Sink.faults end.out, g.T.Sink.faults end.trace) (λ alone. absurd (alone_read reads stands.waits c.in-Err-flush.ensures.idle alone), source_later (Unit {0}) _ c.in-Err-Unread.stop _ _ cause) quiet.0 quiet.1 c.in-Err-flush.ensures.takes.cause)
-
-pub returns-clause-cause : goal.returns-clause-cause
-returns-clause-cause g c =
-    let served : c.read_texts-read.result ≡ Err (Served c.in-Err-Served.halted) = c.in-Err-Served.is ∙ ap Err (rw c.in-Err-Served.is at c.in-Err-Served.field-0-is) in
-    let cause = rw served at c.read_texts-read.ensures.cause in
-    rw c.from-in-Err-Served.ensures (same_cause _ (Unit {0}) Tally (session_stop c.in-Err-Served.halted.stop) _ _ cause)
-
-pub returns-in-Ok-flush-2-clause-quiet : goal.returns-in-Ok-flush-2-clause-quiet
-returns-in-Ok-flush-2-clause-quiet g c =
-    let unread : c.read_texts-read.result ≡ Err (Unread c.in-Err-Unread.stop) = c.in-Err-Unread.is ∙ ap Err (rw c.in-Err-Unread.is at c.in-Err-Unread.field-0-is) in
-    let quiet = rw unread at c.read_texts-read.ensures.quiet in
-    let now = c.in-Ok-flush-2.ensures.takes.quiet in
-    (now.0 ∙ quiet.0, now.1 ∙ quiet.1)
-
-pub returns-in-Ok-clause-quiet : goal.returns-in-Ok-clause-quiet
-returns-in-Ok-clause-quiet g c =
-    let before = c.in-Ok.ensures.cause in
-    let there = c.read_texts-read.new in
-    let end = c.flush.new in
-    rw c.from.ensures
-    (waited_quiet c.in-Err.halted.quiet (g.I.Source.faults c.args.input.now) (g.I.Source.faults there.input) (g.K.Sink.faults c.args.out.now, g.T.Sink.faults c.args.trace.now) (g.K.Sink.faults there.out, g.T.Sink.faults there.trace)
-    (g.K.Sink.faults end.out, g.T.Sink.faults end.trace) before.out before.trace c.in-Err.ensures.takes.quiet)
-
-pub returns-in-Err-Unread-clause-quiet : goal.returns-in-Err-Unread-clause-quiet
-returns-in-Err-Unread-clause-quiet g c =
-    let unread : c.read_texts-read.result ≡ Err (Unread c.in-Err-Unread.stop) = c.in-Err-Unread.is ∙ ap Err (rw c.in-Err-Unread.is at c.in-Err-Unread.field-0-is) in
-    let quiet = rw unread at c.read_texts-read.ensures.quiet in
-    let there = c.read_texts-read.new in
-    let end = c.flush-in-Err-Unread.new in
-    rw c.from-in-Err-flush.ensures
-    (waited_quiet c.in-Err-flush.halted.quiet (g.I.Source.faults c.args.input.now) (g.I.Source.faults there.input) (g.K.Sink.faults c.args.out.now, g.T.Sink.faults c.args.trace.now) (g.K.Sink.faults there.out, g.T.Sink.faults there.trace)
-    (g.K.Sink.faults end.out, g.T.Sink.faults end.trace) quiet.0 quiet.1 c.in-Err-flush.ensures.takes.quiet)
-
-pub returns-clause-quiet : goal.returns-clause-quiet
-returns-clause-quiet g c =
-    let served : c.read_texts-read.result ≡ Err (Served c.in-Err-Served.halted) = c.in-Err-Served.is ∙ ap Err (rw c.in-Err-Served.is at c.in-Err-Served.field-0-is) in
-    let quiet = rw served at c.read_texts-read.ensures.quiet in
-    rw c.from-in-Err-Served.ensures quiet
+    ran_over g.S.BlockStore.state g.B.Behind.state g.K.Sink.written g.K.Sink.faults g.T.Sink.written _ (search rules) (search rules) (search rules) (search rules) (search rules) c.turns_of.ensures
+    (rw c.new-server.ensures at c.serve_feed.ensures.ran)

@@ -55,8 +55,8 @@ returns-in-Ok-Secret-clause-shown g c =
     let read = rw c.in-Ok-Secret.field-0-is at c.in-Ok-Secret.ensures in
     let ended = c.ended_with.ensures in
     rw (ended.ending, ended.high, ended.quiet)
-    (shown_ran keys_in _ c.in-Ok-Secret.key (stop_of c.serve_with-ran.result.0) new.unread new.taken new.limit c.serve_with-ran.ensures.within c.serve_with-ran.ensures.fed_by read.read c.serve_with-ran.ensures.ran
-    (λ taken is. ap keys_with is) ended.tally)
+    (shown_ran keys_in _ c.in-Ok-Secret.key (stop_of c.serve_with-ran.result.0) new.unread new.taken new.limit c.serve_with-ran.ensures.within c.serve_with-ran.ensures.fed_by read.read (c.serve_with-ran.ensures.ran c.in-Ok-Secret.key)
+    (λ taken is. ap keys_with is ∙ sym c.derive-keys.ensures) ended.tally)
 
 pub returns-in-Ok-Secret-clause-took : goal.returns-in-Ok-Secret-clause-took
 returns-in-Ok-Secret-clause-took g c = λ refused is. took_whole c.serve_with-ran.result.0 refused (sym c.ended_with.ensures.ending ∙ is) c.serve_with-ran.ensures.took

@@ -1,8 +1,6 @@
 use Rattle.std.proofs.Common.{◌∙◌, ap, refl, subst}
 use Rattle.ob_base.specs.declared.config.Public.{Public}
-use Rattle.ob_tables.specs.Agreeing.{AreDraws, first_draws}
 use Rattle.ob_headline.specs.Words.{faults_of}
-use Rattle.ob_seal.specs.KeySet.{KeySet}
 use Rattle.ob_shell.proofs.EngageLemmas.{ready_unsaved}
 use Rattle.ob_shell.proofs.SessionLemmas.{ran_after}
 use Rattle.ob_shell.proofs.StandLemmas.{stands_first, stands_flying}
@@ -12,7 +10,7 @@ use Rattle.ob_shell.specs.Running.{ServesAlone, StopCause, stop_of}
 use Rattle.ob_shell.proofs.top.serve_with.Goals as goal
 
 pub returns-in-Err-clause-ran : goal.returns-in-Err-clause-ran
-returns-in-Err-clause-ran g c = ran_nothing _ _ _ _ _ _ _ _ _
+returns-in-Err-clause-ran g c secret = ran_nothing _ _ _ _ _ _ _ _ _
     (record {
       unasked = c.requires.fresh;
       honest = g.met.S.BlockStore.starts_honest c.args.store.now c.requires.fresh;
@@ -23,9 +21,9 @@ pub returns-in-Err-clause-traced : goal.returns-in-Err-clause-traced
 returns-in-Err-clause-traced g c = traced_whole _ (traced_none _ _ _)
 
 pub returns-in-Ok-clause-ran : goal.returns-in-Ok-clause-ran
-returns-in-Ok-clause-ran g c =
+returns-in-Ok-clause-ran g c secret =
     ran_after _ _ _ _ _ _ _ _ _ _ _ _ _
-    (stands_flying _ (stands_first _ _ _ _ _ (c.in-Ok.ensures.agrees (g.S.BlockStore.state c.args.store.now) c.requires.fresh) c.in-Ok.ensures.public (c.in-Ok.ensures.keyed ∙ c.derive.ensures) (subst (λ (k : KeySet). AreDraws c.in-Ok.engine (first_draws k)) c.derive.ensures c.in-Ok.ensures.drawn) c.in-Ok.ensures.started c.in-Ok.ensures.rows
+    (stands_flying _ (stands_first _ _ _ _ _ (c.in-Ok.ensures.agrees (g.S.BlockStore.state c.args.store.now) c.requires.fresh) c.in-Ok.ensures.public c.in-Ok.ensures.keyed c.in-Ok.ensures.drawn c.in-Ok.ensures.started c.in-Ok.ensures.rows
     (record {
       unasked = c.requires.fresh;
       honest = g.met.S.BlockStore.starts_honest c.args.store.now c.requires.fresh;

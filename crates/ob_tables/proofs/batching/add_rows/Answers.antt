@@ -1,10 +1,6 @@
-use Rattle.std.proofs.Common.{◌++◌, ◌∷◌, [], false, map, sym, ◌∙◌, ap, subst}
-use Rattle.std.specs.Prelude.{IsSome}
+use Rattle.ob_tables.proofs.Words.{ap, false, IsSome, map, refusal_by, rows_in, skeleton, Stmt, subst, sym, [], ◌++◌, ◌∙◌, ◌∷◌}
 use Rattle.std.proofs.lemmas.List.{take_all}
 use Rattle.ob_mean.specs.Batches.{inserts_into}
-use Rattle.ob_sql.specs.declared.stmt.Stmt.{Stmt}
-use Rattle.ob_sql.specs.Skeleton.{skeleton}
-use Rattle.ob_tables.specs.Batch.{refusal_by, rows_in}
 use Rattle.ob_tables.proofs.BatchLoops.{refusals_more, rows_all, rows_more}
 use Rattle.ob_tables.proofs.batching.add_rows.Goals as goal
 

@@ -1,7 +1,5 @@
-use Rattle.std.proofs.Common.{◌≡◌, ◌++◌, false, map, take}
+use Rattle.ob_tables.proofs.Words.{false, IsCell, map, refusal_by, rows_in, take, ◌++◌, ◌≡◌}
 use Rattle.std.specs.List.{All}
-use Rattle.ob_row.specs.Spelling.{IsCell}
-use Rattle.ob_tables.specs.Batch.{refusal_by, rows_in}
 use Rattle.ob_tables.proofs.batching.add_rows.Given as goal
 
 abbrev pub invariant-loop-insert : goal.invariant-loop-insert

@@ -1,5 +1,4 @@
-use Rattle.std.proofs.Common.{◌≡◌, length, map, take}
-use Rattle.ob_tables.specs.Batch.{failed_by}
+use Rattle.ob_tables.proofs.Words.{failed_by, length, map, take, ◌≡◌}
 use Rattle.ob_tables.proofs.batching.fail_all.Given as goal
 
 abbrev pub invariant-loop-j : goal.invariant-loop-j

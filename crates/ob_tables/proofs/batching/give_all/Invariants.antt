@@ -1,5 +1,4 @@
-use Rattle.std.proofs.Common.{◌≡◌, ◌≤◌, ◌++◌, length, take, drop}
-use Rattle.ob_tables.specs.Batch.{given_all}
+use Rattle.ob_tables.proofs.Words.{drop, given_all, length, take, ◌++◌, ◌≡◌, ◌≤◌}
 use Rattle.ob_tables.proofs.batching.give_all.Given as goal
 
 abbrev pub invariant-loop-j : goal.invariant-loop-j

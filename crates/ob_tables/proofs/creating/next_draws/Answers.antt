@@ -1,5 +1,4 @@
-use Rattle.std.proofs.Common.{◌≡◌, ◌-◌, ◌+◌, ◌%◌, ◌^◌, ℕ, suc, ◌∙◌, ap, arith}
-use Rattle.ob_seal.specs.Draws.{DrawPlace}
+use Rattle.ob_tables.proofs.Words.{ap, arith, DrawPlace, suc, ℕ, ◌%◌, ◌+◌, ◌-◌, ◌^◌, ◌∙◌, ◌≡◌}
 use Rattle.ob_tables.proofs.DrawsTaken.{taken_all}
 use Rattle.ob_tables.proofs.creating.next_draws.Goals as goal
 

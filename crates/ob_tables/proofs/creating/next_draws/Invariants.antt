@@ -1,6 +1,5 @@
-use Rattle.std.proofs.Common.{◌≡◌, ◌≤◌, ◌+◌, vec_capacity, vec_len}
-use Rattle.ob_base.specs.Lists.{tabulate}
-use Rattle.ob_seal.specs.Draws.{draw_at}
+use Rattle.ob_tables.proofs.Words.{draw_at, tabulate, ◌+◌, ◌≡◌, ◌≤◌}
+use Rattle.std.proofs.Common.{vec_capacity, vec_len}
 use Rattle.ob_tables.proofs.DrawsTaken.{HasTaken}
 use Rattle.ob_tables.proofs.creating.next_draws.Given as goal
 

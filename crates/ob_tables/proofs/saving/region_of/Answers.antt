@@ -1,5 +1,4 @@
-use Rattle.std.proofs.Common.{◌≡◌, Some, refl, sym, ◌∙◌, ap}
-use Rattle.std.proofs.lemmas.Option.{slice_get_read, slice_get_within}
+use Rattle.ob_tables.proofs.Words.{ap, refl, slice_get_read, slice_get_within, Some, sym, ◌∙◌, ◌≡◌}
 use Rattle.ob_base.specs.declared.schema.Table.{Table}
 use Rattle.ob_tables.proofs.SavedLemmas.{region_first, region_none}
 use Rattle.ob_tables.proofs.TableLemmas.{got_or}

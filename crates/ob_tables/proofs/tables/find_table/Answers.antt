@@ -1,7 +1,4 @@
-use Rattle.std.proofs.Common.{◌≡◌, inl, inr, refl, sym, ◌∙◌, ap, arith}
-use Rattle.std.proofs.lemmas.Option.{slice_get_read, slice_get_within}
-use Rattle.std.proofs.lemmas.Bool.{cases_eq}
-use Rattle.std.proofs.lemmas.Slice.Eq.{bytes_eq-Decides}
+use Rattle.ob_tables.proofs.Words.{ap, arith, bytes_eq-Decides, cases_eq, inl, inr, refl, slice_get_read, slice_get_within, sym, ◌∙◌, ◌≡◌}
 use Rattle.ob_base.specs.declared.schema.Table.{Table}
 use Rattle.ob_tables.proofs.tables.find_table.Goals as goal
 

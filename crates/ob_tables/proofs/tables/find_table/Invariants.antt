@@ -1,4 +1,4 @@
-use Rattle.std.proofs.Common.{◌≡◌, ◌<◌, ℕ, Some, slice_get}
+use Rattle.ob_tables.proofs.Words.{slice_get, Some, ℕ, ◌<◌, ◌≡◌}
 use Rattle.ob_base.specs.declared.schema.Table.{Table as TableOf}
 use Rattle.ob_tables.proofs.tables.find_table.Given as goal
 

@@ -1,5 +1,4 @@
-use Rattle.std.proofs.Common.{arith}
-use Rattle.std.proofs.lemmas.Option.{slice_get_within}
+use Rattle.ob_tables.proofs.Words.{arith, slice_get_within}
 use Rattle.ob_tables.proofs.FoundLemmas.{absent}
 use Rattle.ob_tables.proofs.tables.table_in.Goals as goal
 

@@ -1,7 +1,6 @@
-use Rattle.std.proofs.Common.{◌≡◌, take}
+use Rattle.ob_tables.proofs.Words.{IsSet, take, ◌≡◌}
 use Rattle.std.specs.List.{All}
 use Rattle.ob_mean.specs.Step.{set_cells}
-use Rattle.ob_tables.specs.Schemas.{IsSet}
 use Rattle.ob_tables.proofs.updating.set_cells.Given as goal
 
 abbrev pub invariant-loop-set : goal.invariant-loop-set

@@ -1,8 +1,5 @@
-use Rattle.std.proofs.Common.{subst, sym}
-use Rattle.ob_tables.specs.declared.stop.RunStop.{RunStop}
-use Rattle.std.specs.Prelude.{Err}
+use Rattle.ob_exec.proofs.Words.{Err, RunStop, SavesTables, subst, sym}
 use Rattle.ob_exec.proofs.SavingLemmas.{agrees_synced, rests_then, saved_all, unset, unsynced, unwritten, waits_synced}
-use Rattle.ob_exec.specs.Saving.{SavesTables}
 use Rattle.ob_exec.proofs.behind.SavedByBehind.save.Goals as goal
 
 pub save-requires : goal.save-requires

@@ -28,4 +28,5 @@ returns c =
           lied = steady.lied;
         };
       };
+      same = refl;
     }

@@ -1,8 +1,6 @@
-use Rattle.std.proofs.Common.{◌≡◌, List, Some, refl, sym, ◌∙◌, subst, arith, slice_get}
-use Rattle.std.proofs.lemmas.Option.{slice_get_read, slice_get_within}
+use Rattle.ob_tables.proofs.Words.{arith, IsAt, List, refl, slice_get, slice_get_read, slice_get_within, Some, subst, sym, ◌∙◌, ◌≡◌}
 use Rattle.ob_base.specs.declared.schema.Shape.TheVariants.{Flat as FlatShape}
 use Rattle.ob_base.specs.declared.schema.Table.{Table}
-use Rattle.ob_tables.specs.Engines.{IsAt}
 use Rattle.ob_tables.proofs.IndexKinds.{access_is, no_index_flat, no_index_named}
 use Rattle.ob_tables.proofs.TableLemmas.{index_at}
 use Rattle.ob_tables.proofs.engine.Engine.accessed.Goals as goal

@@ -1,16 +1,12 @@
-use Rattle.std.proofs.Common.{ℕ, ◌≤◌, ◌+◌, List, Ok, Err, sym, ◌∙◌, ap, subst, length}
+use Rattle.ob_tables.proofs.Words.{ap, AreSalted, catalogue_of, Err, HasBlock, length, List, Listed, MayAsk, Ok, StoreState, subst, sym, WritesClosing, ℕ, ◌+◌, ◌∙◌, ◌≤◌}
 use Rattle.std.specs.List.{All}
 use Rattle.ob_base.specs.declared.schema.Table.{Table}
 use Rattle.ob_vault.specs.Places.{at}
-use Rattle.ob_vault.specs.Words.{MayAsk}
-use Rattle.ob_reopen.specs.declared.listed.Listed.{Listed}
-use Rattle.ob_reopen.specs.Writings.{AreSalted, HasBlock, WritesClosing, catalogue_of}
 use Rattle.ob_tables.proofs.GivenUpLemmas.{none_behind}
 use Rattle.ob_tables.proofs.RunLemmas.{at_ok}
-use Rattle.ob_store.specs.State.{StoreState}
 use Rattle.ob_vault.specs.State.{HasNoneFrom}
 use Rattle.ob_tables.specs.Closing.{ClosesEngine}
-use Rattle.ob_tables.proofs.ClosedLemmas.{closes_all, closes_cut, closes_none, few_columns, few_listed, have_blocks, lives_fore, may_write, used_is}
+use Rattle.ob_tables.proofs.ClosedLemmas.{closes_all, closes_cut, closes_none, few_columns, few_listed, have_blocks, lives_fore, may_write, ready_fore, used_is}
 use Rattle.ob_tables.proofs.engine.Engine.close.Goals as goal
 
 pub returns-then-is_err : goal.returns-then-is_err
@@ -38,6 +34,13 @@ returns-in_default g c =
           closes_none g.R.Revisions.state old s c.requires.agrees c.requires.flat (sym (used_is g.R.Revisions.state old s c.requires.agrees c.requires.flat) ∙ sym c.is_used_up.ensures ∙ c.if-is_used_up.false)
           (g.S.BlockStore.state c.room.new.self) c.room.ensures.rests;
     }
+
+pub drop_closing-requires-clause-ready : goal.drop_closing-requires-clause-ready
+drop_closing-requires-clause-ready g c =
+    let old = c.args.self in
+    let s = g.S.BlockStore.state c.args.store.now in
+    ready_fore g.R.Revisions.state old s c.requires.agrees c.requires.flat (sym (used_is g.R.Revisions.state old s c.requires.agrees c.requires.flat) ∙ sym c.is_used_up.ensures ∙ c.if-is_used_up.false)
+    (g.S.BlockStore.state c.room.new.self) c.room.ensures.rests
 
 pub drop_closing-requires-clause-lives : goal.drop_closing-requires-clause-lives
 drop_closing-requires-clause-lives g c =

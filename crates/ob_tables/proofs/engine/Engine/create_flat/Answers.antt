@@ -1,16 +1,7 @@
-use Rattle.std.proofs.Common.{◌≤◌, ◌+◌, ℕ, arith, refl, List, [], ◌∷◌, ◌++◌, Ok, ◌-◌, sym, ◌∙◌, subst, ap, length}
+use Rattle.ob_tables.proofs.Words.{Access, answer_of, ap, arith, blocks_for, count_of, Cut, earlier, engine_start, is_stop, length, List, none, Ok, Outcome, refl, subst, sym, went_rests, Whole, ℕ, [], ◌++◌, ◌+◌, ◌-◌, ◌∙◌, ◌∷◌, ◌≤◌}
 use Rattle.ob_base.specs.declared.schema.Shape.TheVariants.{Flat as FlatShape}
 use Rattle.ob_base.specs.declared.schema.Table.{Table}
-use Rattle.ob_base.specs.declared.seen.End.TheVariants.{Whole, Cut}
-use Rattle.ob_base.specs.Numbers.{blocks_for}
 use Rattle.ob_sql.specs.declared.stmt.Stmt.TheVariants.{Create}
-use Rattle.ob_vault.specs.Calls.{none}
-use Rattle.ob_vault.proofs.WordLemmas.{went_rests}
-use Rattle.ob_base.specs.declared.access.Access.{Access}
-use Rattle.ob_vault.specs.State.{earlier}
-use Rattle.ob_tables.specs.Agreeing.{count_of, engine_start}
-use Rattle.ob_verdict.specs.declared.outcome.Outcome.{Outcome}
-use Rattle.ob_tables.specs.Running.{answer_of, is_stop}
 use Rattle.ob_tables.proofs.RunLemmas.{at_ok, count_rises, engine_after, opens_block}
 use Rattle.ob_tables.proofs.SilentLemmas.{serves_as, unasked}
 use Rattle.ob_tables.proofs.CreateLemmas.{created, not_created, new_within, new_few, new_asked, new_size, new_idle, popped}

@@ -1,20 +1,9 @@
-use Rattle.std.proofs.Common.{◌+◌, ◌-◌, ℕ, List, [], ◌∷◌, ◌++◌, length, true, Ok, refl, sym, ◌∙◌, ap, arith}
-use Rattle.ob_base.specs.declared.access.Access.{Access}
-use Rattle.ob_base.specs.declared.schema.Shape.TheVariants.{Indexed}
+use Rattle.ob_tables.proofs.Words.{Access, answer_of, ap, arith, count_of, Cut, earlier, Engine, engine_start, height_of, Index, Indexed, is_stop, length, List, none, Ok, Outcome, refl, sym, true, went_rests, Whole, ℕ, [], ◌++◌, ◌+◌, ◌-◌, ◌∙◌, ◌∷◌}
 use Rattle.ob_base.specs.declared.schema.Table.{Table}
-use Rattle.ob_base.specs.declared.seen.End.TheVariants.{Whole, Cut}
-use Rattle.ob_base.specs.Indexes.{height_of, tree_blocks}
+use Rattle.ob_base.specs.Indexes.{tree_blocks}
 use Rattle.ob_base.proofs.IndexLemmas.{is_height_of}
-use Rattle.ob_vault.specs.Calls.{none}
-use Rattle.ob_vault.specs.State.{earlier}
-use Rattle.ob_vault.proofs.WordLemmas.{went_rests}
-use Rattle.ob_oram.specs.declared.index.Index.{Index}
 use Rattle.ob_sql.specs.declared.stmt.Stmt.TheVariants.{Create}
 use Rattle.ob_mean.specs.Verdict.{ended as seen_to}
-use Rattle.ob_verdict.specs.declared.outcome.Outcome.{Outcome}
-use Rattle.ob_tables.specs.declared.engine.Engine.{Engine}
-use Rattle.ob_tables.specs.Agreeing.{count_of, engine_start}
-use Rattle.ob_tables.specs.Running.{answer_of, is_stop}
 use Rattle.ob_tables.proofs.CreateIndex.{length_drawn, made_index, new_key, new_spare, not_made}
 use Rattle.ob_tables.proofs.CreateLemmas.{new_asked, new_size, popped}
 use Rattle.ob_tables.proofs.RunLemmas.{at_ok, count_rises, engine_left}

@@ -1,18 +1,9 @@
-use Rattle.std.proofs.Common.{◌≡◌, ◌-◌, Ok, refl, ◌∙◌, ap, append-nil, map}
-use Rattle.std.specs.Prelude.{count_by}
-use Rattle.std.proofs.lemmas.Option.{slice_get_within}
-use Rattle.ob_base.specs.declared.seen.End.TheVariants.{Whole}
-use Rattle.ob_script.specs.Parts.{rewrite_part}
+use Rattle.ob_tables.proofs.Words.{ap, append-nil, count_by, count_of, Deleted, Engine, is_true, map, Ok, Outcome, refl, rewrite_part, rows, slice_get_within, Whole, ◌-◌, ◌∙◌, ◌≡◌}
 use Rattle.ob_flat.specs.declared.flat.Flat.{Flat}
-use Rattle.ob_row.specs.Slots.{rows, emptied}
-use Rattle.ob_row.specs.Truth.{is_true}
+use Rattle.ob_row.specs.Slots.{emptied}
 use Rattle.ob_sql.specs.declared.stmt.Stmt.TheVariants.{Delete}
 use Rattle.ob_mean.specs.Conditions.{where_at}
 use Rattle.ob_mean.specs.Verdict.{ended as seen_to}
-use Rattle.ob_tables.specs.Agreeing.{count_of}
-use Rattle.ob_tables.specs.declared.engine.Engine.{Engine}
-use Rattle.ob_verdict.specs.declared.outcome.Outcome.{Outcome}
-use Rattle.ob_verdict.specs.declared.outcome.Outcome.TheVariants.{Deleted}
 use Rattle.ob_tables.proofs.ChangeLemmas.{delete_alters}
 use Rattle.ob_tables.proofs.FoundLemmas.{shape_found}
 use Rattle.ob_tables.proofs.MutateLemmas.{mutated, unmutated}

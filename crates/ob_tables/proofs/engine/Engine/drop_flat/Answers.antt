@@ -1,11 +1,7 @@
-use Rattle.std.proofs.Common.{refl, ◌∙◌, ap, Ok}
-use Rattle.std.proofs.lemmas.Option.{slice_get_within}
-use Rattle.ob_base.specs.declared.seen.End.TheVariants.{Whole}
+use Rattle.ob_tables.proofs.Words.{ap, Engine, Ok, Outcome, refl, slice_get_within, Whole, ◌∙◌}
 use Rattle.ob_flat.specs.declared.flat.Flat.{Flat}
 use Rattle.ob_sql.specs.declared.stmt.Stmt.TheVariants.{Drop as DropTable}
 use Rattle.ob_mean.specs.Verdict.{ended as seen_to}
-use Rattle.ob_tables.specs.declared.engine.Engine.{Engine}
-use Rattle.ob_verdict.specs.declared.outcome.Outcome.{Outcome}
 use Rattle.ob_tables.proofs.DropLemmas.{dropped, lives_found}
 use Rattle.ob_tables.proofs.SilentLemmas.{serves_as, unasked}
 use Rattle.ob_tables.proofs.engine.Engine.drop_flat.Goals as goal

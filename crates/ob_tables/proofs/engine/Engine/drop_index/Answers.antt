@@ -1,17 +1,10 @@
-use Rattle.std.proofs.Common.{◌≡◌, ◌<◌, List, length, Ok, refl, sym, ◌∙◌, ap, subst}
-use Rattle.std.proofs.lemmas.Option.{slice_get_within}
-use Rattle.ob_oram.specs.declared.index.Index.{Index}
+use Rattle.ob_tables.proofs.Words.{ap, Engine, Index, length, List, Ok, Outcome, refl, remove, slice_get_within, subst, sym, Vault, Whole, ◌<◌, ◌∙◌, ◌≡◌}
 use Rattle.ob_oram.specs.Discards.{DiscardsIndex}
 use Rattle.ob_oram.specs.Indexes.{IsStored}
 use Rattle.ob_base.specs.declared.schema.Table.{Table}
-use Rattle.ob_vault.specs.declared.vault.Vault.{Vault}
 use Rattle.ob_vault.specs.Places.{at as at_world}
 use Rattle.ob_sql.specs.declared.stmt.Stmt.TheVariants.{Drop as DropTable}
-use Rattle.std.specs.List.{remove}
 use Rattle.ob_mean.specs.Verdict.{ended as seen_to}
-use Rattle.ob_base.specs.declared.seen.End.TheVariants.{Whole}
-use Rattle.ob_tables.specs.declared.engine.Engine.{Engine}
-use Rattle.ob_verdict.specs.declared.outcome.Outcome.{Outcome}
 use Rattle.ob_tables.proofs.DropIndex.{dropped_index, stored_now}
 use Rattle.ob_tables.proofs.SilentLemmas.{serves_as, unasked}
 use Rattle.ob_tables.proofs.engine.Engine.drop_index.Goals as goal

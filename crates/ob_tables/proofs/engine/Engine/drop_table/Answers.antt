@@ -1,8 +1,6 @@
-use Rattle.std.proofs.Common.{List, sym, ◌∙◌, ap, subst}
-use Rattle.std.specs.Prelude.{slice_get}
+use Rattle.ob_tables.proofs.Words.{ap, IsTreeOf, List, slice_get, subst, sym, ◌∙◌}
 use Rattle.ob_base.specs.declared.schema.Table.{Table}
 use Rattle.ob_flat.specs.declared.flat.Flat.{Flat}
-use Rattle.ob_tables.specs.Engines.{IsTreeOf}
 use Rattle.ob_tables.proofs.TableLemmas.{got_or, index_at}
 use Rattle.ob_tables.proofs.engine.Engine.drop_table.Goals as goal
 

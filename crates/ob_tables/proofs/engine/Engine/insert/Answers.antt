@@ -1,23 +1,12 @@
-use Rattle.std.proofs.Common.{◌≡◌, ◌-◌, Ok, refl, sym, ◌∙◌, subst, ap}
+use Rattle.ob_tables.proofs.Words.{ap, Columns, count_of, Engine, FitsColumns, headings_of, insert_part, inserted_as, IsCell, limits_of, Ok, Outcome, refl, slice_get_within, subst, sym, Whole, ◌-◌, ◌∙◌, ◌≡◌}
 use Rattle.std.specs.Prelude.{All}
-use Rattle.std.proofs.lemmas.Option.{slice_get_within}
-use Rattle.ob_base.specs.declared.seen.End.TheVariants.{Whole}
-use Rattle.ob_base.specs.Schemas.{Columns}
-use Rattle.ob_base.specs.Stored.{headings_of}
-use Rattle.ob_script.specs.Parts.{insert_part}
 use Rattle.ob_flat.specs.declared.flat.Flat.{Flat}
 use Rattle.ob_row.specs.Rows.{Row}
-use Rattle.ob_row.specs.Spelling.{FitsColumns, IsCell}
 use Rattle.ob_mutate.specs.Inserting.{insert_answer, slots_after}
 use Rattle.ob_sql.specs.declared.stmt.Stmt.TheVariants.{Insert}
 use Rattle.ob_mean.specs.Step.{new_row}
 use Rattle.ob_mean.specs.Verdict.{ended as seen_to}
 use Rattle.ob_mean.proofs.InsertLemmas.{insert_fits}
-use Rattle.ob_mean.specs.Refusals.{limits_of}
-use Rattle.ob_tables.specs.Agreeing.{count_of}
-use Rattle.ob_tables.specs.declared.engine.Engine.{Engine}
-use Rattle.ob_verdict.specs.declared.outcome.Outcome.{Outcome}
-use Rattle.ob_tables.specs.Running.{inserted_as}
 use Rattle.ob_tables.proofs.FoundLemmas.{heading_found, shape_found}
 use Rattle.ob_tables.proofs.InsertLemmas.{insert_alters}
 use Rattle.ob_tables.proofs.MutateLemmas.{mutated, unmutated}

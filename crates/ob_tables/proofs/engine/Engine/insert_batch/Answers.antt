@@ -1,22 +1,10 @@
-use Rattle.std.proofs.Common.{◌≡◌, ◌≤◌, ◌-◌, ◌+◌, ◌*◌, ℕ, List, Option, length, map, false, Ok, arith, refl, sym, ◌∙◌, subst, ap}
+use Rattle.ob_tables.proofs.Words.{Access, ap, AreFit, arith, blocks_for, count_of, earlier, Engine, engine_start, false, given_all, length, length-map, List, map, Ok, Option, Outcome, refl, Refusal, refusal_by, slice_get_within, subst, sym, Whole, ℕ, ◌*◌, ◌+◌, ◌-◌, ◌∙◌, ◌≡◌, ◌≤◌}
 use Rattle.std.specs.Prelude.{⊤}
-use Rattle.std.proofs.lemmas.List.{length-map}
-use Rattle.std.proofs.lemmas.Option.{slice_get_within}
-use Rattle.ob_base.specs.declared.access.Access.{Access}
-use Rattle.ob_base.specs.declared.refusal.Refusal.{Refusal}
-use Rattle.ob_base.specs.declared.seen.End.TheVariants.{Whole}
-use Rattle.ob_base.specs.Numbers.{blocks_for}
 use Rattle.ob_flat.specs.declared.flat.Flat.{Flat}
 use Rattle.ob_mean.specs.Verdict.{ended as seen_to}
 use Rattle.ob_mutate.specs.declared.inserting.Inserted.{Inserted}
-use Rattle.ob_mutate.specs.Batches.{AreFit}
 use Rattle.ob_row.specs.Rows.{Row}
-use Rattle.ob_vault.specs.State.{earlier}
 use Rattle.ob_vault.proofs.WordLemmas.{ready_rests}
-use Rattle.ob_tables.specs.Agreeing.{count_of, engine_start}
-use Rattle.ob_tables.specs.Batch.{given_all, refusal_by}
-use Rattle.ob_tables.specs.declared.engine.Engine.{Engine}
-use Rattle.ob_verdict.specs.declared.outcome.Outcome.{Outcome}
 use Rattle.ob_tables.proofs.BatchServed.{all_insert, batch_unasked, begun, cut_batch, few_rest, name_flat, name_there, not_late, put_batch, rows_are_fit, rows_open}
 use Rattle.ob_tables.proofs.FoundLemmas.{heading_found, shape_found}
 use Rattle.ob_tables.proofs.ReadLemmas.{read_flat, read_size}

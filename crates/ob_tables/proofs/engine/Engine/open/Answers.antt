@@ -1,16 +1,8 @@
-use Rattle.std.proofs.Common.{◌≡◌, ◌≤◌, ◌*◌, ℕ, false, List, [], replicate, Some, None, Ok, Err, refl, sym, ◌∙◌, ap, subst, arith, length}
+use Rattle.ob_tables.proofs.Words.{ap, arith, Closing, Engine, Err, false, IsMarked, key_of, length, List, Listed, None, Ok, opened_public, Public, refl, ReopensTables, replicate, Some, subst, sym, ℕ, [], ◌*◌, ◌∙◌, ◌≡◌, ◌≤◌}
 use Rattle.std.proofs.lemmas.Result.{err_from_is_err_and}
-use Rattle.rand_chacha.specs.ChaCha.{key_of}
-use Rattle.ob_base.specs.declared.config.Public.{Public}
 use Rattle.ob_room.specs.RoomState.{clear}
 use Rattle.ob_vault.specs.Places.{at}
-use Rattle.ob_reopen.specs.declared.closing.Closing.{Closing}
 use Rattle.ob_reopen.specs.declared.fault.OpenErr.TheVariants.{NoMemory}
-use Rattle.ob_reopen.specs.declared.listed.Listed.{Listed}
-use Rattle.ob_reopen.specs.Limits.{IsMarked}
-use Rattle.ob_reopen.specs.Openings.{ReopensTables}
-use Rattle.ob_reopen.specs.Reopened.{opened_public}
-use Rattle.ob_tables.specs.declared.engine.Engine.{Engine}
 use Rattle.ob_tables.specs.Reopening.{OpensEngine}
 use Rattle.ob_tables.proofs.RunLemmas.{at_ok}
 use Rattle.ob_tables.proofs.OpeningLemmas.{closed_marked, closed_pack, follows, high_read, not_begun, opens_all, opens_shut, opens_unlisted, opens_unread, room_read, rows_read, spare_tables, started_as}

@@ -1,20 +1,10 @@
-use Rattle.std.proofs.Common.{◌≡◌, ◌≤◌, ◌*◌, ℕ, false, List, [], replicate, Some, None, Ok, Err, refl, sym, ◌∙◌, ap, subst, arith, length}
+use Rattle.ob_tables.proofs.Words.{ap, arith, Closing, draw_seed_of, DrawPlace, Engine, Err, false, IsCatalogue, IsMarked, key_of, KeySet, length, List, Listed, None, Ok, opened_public, Public, refl, ReopensTables, replicate, Some, subst, sym, ℕ, [], ◌*◌, ◌∙◌, ◌≡◌, ◌≤◌}
 use Rattle.std.proofs.lemmas.Result.{err_from_is_err_and}
-use Rattle.rand_chacha.specs.ChaCha.{key_of}
-use Rattle.ob_base.specs.declared.config.Public.{Public}
 use Rattle.ob_room.specs.RoomState.{clear}
-use Rattle.ob_seal.specs.Draws.{DrawPlace}
-use Rattle.ob_seal.specs.KeySet.{KeySet, draw_seed_of}
 use Rattle.ob_vault.specs.Places.{at}
 use Rattle.ob_vault.specs.Rekeying.{rekeyed}
-use Rattle.ob_reopen.specs.declared.closing.Closing.{Closing}
 use Rattle.ob_reopen.specs.declared.fault.OpenErr.TheVariants.{NoMemory}
-use Rattle.ob_reopen.specs.declared.listed.Listed.{Listed}
-use Rattle.ob_reopen.specs.Limits.{IsCatalogue, IsMarked}
-use Rattle.ob_reopen.specs.Openings.{ReopensTables}
-use Rattle.ob_reopen.specs.Reopened.{opened_public}
 use Rattle.ob_reopen.specs.Saved.{reopening_keys}
-use Rattle.ob_tables.specs.declared.engine.Engine.{Engine}
 use Rattle.ob_tables.proofs.RunLemmas.{at_ok}
 use Rattle.ob_tables.proofs.OpeningLemmas.{follows, high_read, room_read, rows_read, started_as}
 use Rattle.ob_tables.proofs.OpenSavedLemmas.{named_marked, named_saved, reads_first, saved_none, saved_open, saved_shut, saved_unkeyed, saved_unlisted, saved_unread, spare_first}

@@ -1,11 +1,7 @@
-use Rattle.std.proofs.Common.{◌≤◌, ◌+◌, false, List, Ok, Err, sym, ◌∙◌, ap, subst, length}
+use Rattle.ob_tables.proofs.Words.{ap, AreSalted, catalogue_of, Engine, Err, false, HasBlock, length, List, Listed, MayAsk, Ok, subst, sym, WritesClosing, ◌+◌, ◌∙◌, ◌≤◌}
 use Rattle.std.specs.List.{All}
 use Rattle.ob_base.specs.declared.schema.Table.{Table}
 use Rattle.ob_vault.specs.Places.{at}
-use Rattle.ob_vault.specs.Words.{MayAsk}
-use Rattle.ob_reopen.specs.declared.listed.Listed.{Listed}
-use Rattle.ob_reopen.specs.Writings.{AreSalted, HasBlock, WritesClosing, catalogue_of}
-use Rattle.ob_tables.specs.declared.engine.Engine.{Engine}
 use Rattle.ob_tables.specs.Saving.{SavesEngine}
 use Rattle.ob_tables.proofs.ClosedLemmas.{have_blocks, used_is}
 use Rattle.ob_tables.proofs.RunLemmas.{at_ok}
@@ -107,7 +103,7 @@ returns-in-Ok-write_closing g c =
           c.write_closing.new.vault c.write_closing.new.room c.write_closing.ensures.room t made writes
           (λ q shape tells live. g.met.S.BlockStore.keeps_live c.write_closing.new.store q shape tells live)
           c.list_in.new.self.vault c.list_in.ensures.forgets c.list_in.ensures.stays
-          c.mark_of.result c.in-Some.salt c.mark_of.ensures.bytes (sym c.in-Some.ensures.value) c.mark_of.ensures.named);
+          c.mark_of.result c.in-Some.salt c.check_of-check.result c.mark_of.ensures.bytes (sym c.in-Some.ensures.value) c.check_of-check.ensures c.mark_of.ensures.named);
     }
 
 pub returns : goal.returns

@@ -1,15 +1,8 @@
-use Rattle.std.proofs.Common.{◌≡◌, ◌-◌, ◌≤◌, ℕ, List, Some, ◌++◌, refl, sym, ◌∙◌, ap, subst, arith, length, slice_get, slice_index_or}
-use Rattle.std.specs.Prelude.{drop, take}
-use Rattle.std.proofs.lemmas.Option.{slice_get_read, slice_get_within}
-use Rattle.ob_base.specs.declared.seen.Seen.{Seen}
-use Rattle.ob_base.specs.declared.seen.End.TheVariants.{Cut}
-use Rattle.ob_oram.specs.declared.index.Index.{Index}
+use Rattle.ob_tables.proofs.Words.{ap, arith, count_of, Cut, drop, Index, IsDone, length, List, refl, Seen, seen_cut, slice_get, slice_get_read, slice_get_within, slice_index_or, Some, subst, sym, take, ℕ, ◌++◌, ◌-◌, ◌∙◌, ◌≡◌, ◌≤◌}
 use Rattle.ob_oram.specs.Scripts.{script_length}
 use Rattle.ob_oram.proofs.WalkRows.{height_few}
 use Rattle.ob_vault.specs.Places.{at}
-use Rattle.ob_keyed.specs.Seeing.{seen_cut}
-use Rattle.ob_tables.specs.Agreeing.{count_of}
-use Rattle.ob_tables.specs.Indexed.{IsDone, MayEmitGot}
+use Rattle.ob_tables.specs.Indexed.{MayEmitGot}
 use Rattle.ob_tables.proofs.IndexArms.{arm_halted, arm_stopped, arm_whole}
 use Rattle.ob_tables.proofs.IndexFound.{after_at, idle_width, keyed_on, may_emit, rows_fit, schema_left, serves_unasked, serves_unasked_at, stands_now, stands_old, starts_access, written_back}
 use Rattle.ob_tables.proofs.RunLemmas.{at_ok}

@@ -1,7 +1,5 @@
-use Rattle.std.proofs.Common.{sym, ◌∙◌, ap, arith}
-use Rattle.rand_chacha.specs.ChaCha.{key_of}
-use Rattle.ob_seal.specs.Draws.{DrawPlace, draw_of}
-use Rattle.ob_seal.specs.KeySet.{KeySet, draw_seed_of}
+use Rattle.ob_tables.proofs.Words.{ap, arith, draw_seed_of, DrawPlace, key_of, KeySet, sym, ◌∙◌}
+use Rattle.ob_seal.specs.Draws.{draw_of}
 use Rattle.std.proofs.lemmas.Grind.{common_steps}
 use Rattle.ob_tables.proofs.TableLemmas.{no_entry, no_tables}
 use Rattle.ob_tables.proofs.engine.Engine.start.Goals as goal

@@ -1,23 +1,12 @@
-use Rattle.std.proofs.Common.{◌≡◌, ◌-◌, ℕ, List, Ok, refl, sym, ◌∙◌, subst, ap, append-nil, map}
-use Rattle.std.specs.Option.{option_map}
+use Rattle.ob_tables.proofs.Words.{ap, append-nil, Changed, count_by, count_of, Engine, is_true, IsSet, List, map, Ok, option_map, Outcome, refl, rewrite_part, rows, slice_get_within, subst, sym, Whole, ℕ, ◌-◌, ◌∙◌, ◌≡◌}
 use Rattle.std.specs.List.{All}
-use Rattle.std.specs.Prelude.{count_by}
-use Rattle.std.proofs.lemmas.Option.{slice_get_within}
-use Rattle.ob_base.specs.declared.seen.End.TheVariants.{Whole}
-use Rattle.ob_script.specs.Parts.{rewrite_part}
 use Rattle.ob_flat.specs.declared.flat.Flat.{Flat}
 use Rattle.ob_row.specs.declared.cell.Cell.{Cell}
-use Rattle.ob_row.specs.Slots.{rows}
-use Rattle.ob_row.specs.Truth.{is_true, updated}
+use Rattle.ob_row.specs.Truth.{updated}
 use Rattle.ob_sql.specs.declared.stmt.Stmt.TheVariants.{Update}
 use Rattle.ob_mean.specs.Conditions.{where_at}
 use Rattle.ob_mean.specs.Step.{set_cells}
 use Rattle.ob_mean.specs.Verdict.{ended as seen_to}
-use Rattle.ob_tables.specs.Agreeing.{count_of}
-use Rattle.ob_tables.specs.declared.engine.Engine.{Engine}
-use Rattle.ob_verdict.specs.declared.outcome.Outcome.{Outcome}
-use Rattle.ob_verdict.specs.declared.outcome.Outcome.TheVariants.{Changed}
-use Rattle.ob_tables.specs.Schemas.{IsSet}
 use Rattle.ob_tables.proofs.ChangeLemmas.{sets_found, update_alters}
 use Rattle.ob_tables.proofs.FoundLemmas.{heading_found, shape_found}
 use Rattle.ob_tables.proofs.MutateLemmas.{mutated, unmutated}
