@@ -124,10 +124,6 @@ pub read_two : (text : List ℕ) (b : Held) → HoldsMark text b → is_some b.i
 read_two text b holds some reads mark None is = absurd (one_of_two text mark b.mark b.id some holds is)
 read_two text b holds some reads mark (Some id) is = reads mark id is
 
--- a text of one line is that of its mark
-pub one_line : (text : List ℕ) (mark : Mark) → HoldsMark text (record { mark = mark; id = None }) → Spells text mark
-one_line text mark is = subst (λ (t : List ℕ). Spells t mark) (sym (is.is ∙ no_rest (mark_text mark))) is.mark
-
 -- ---- where the second line begins
 pub store_long : (id : List ℕ) → AreSaltBytes id → length (store_text (Some id)) ≡ 39
 store_long id bytes =

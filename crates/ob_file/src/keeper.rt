@@ -30,8 +30,8 @@ enum Part {
 ///
 /// No file is a fresh mark, else it is one line, and a second one that names the store where it has an identity. A new text
 /// is written beside, as `PLACE.next`, and takes the file's place once it is on the disk, if the file is still as this
-/// keeper found or left it; before it says that a run was closed, all files of the store are on the disk. Before it says
-/// that tables were saved the store has seen to that. No link is followed.
+/// keeper found or left it, and then has this text; before it says that a run was closed, all files of the store are on the
+/// disk. Before it says that tables were saved the store has seen to that. No link is followed.
 /// Each error of a file, what isn't a file, a file that others may write, one that spells no mark, and the mark of another
 /// store is `Failed`.
 #[derive(Drop)]
@@ -44,6 +44,8 @@ pub struct FileKeeper<'a, R: Files> {
     id: Option<[u8; 16]>,
     // what the file had when it was read last, or written
     left: Vec<u8>,
+    // what it has when it is looked at again
+    seen: Vec<u8>,
     text: Vec<u8>,
     faults: u64,
     trouble: Option<(Part, Error)>,
@@ -71,6 +73,22 @@ pub fn drawn<R: RandomSource>(source: &R) -> io::Result<[u8; 16]>
     Ok(salt_of(&bytes))
 }
 
+// The path beside a mark's at which a new text is written.
+fn with_next(alloc: Global, path: &str) -> Result<String, NoMemory> {
+    match format!(in alloc; "{}.next", path) {
+        Ok(beside) => Ok(beside),
+        Err(_) => Err(NoMemory),
+    }
+}
+
+// Room for the text of a mark.
+fn text_room(alloc: Global) -> Result<Vec<u8>, NoMemory> {
+    match Vec::with_capacity(alloc, LONG) {
+        Ok(text) => Ok(text),
+        Err(_) => Err(NoMemory),
+    }
+}
+
 // What a call of a part answers.
 fn at<T>(part: Part, given: io::Result<T>) -> Result<T, (Part, Error)>
     ensures { MatchResult given (λ value. result ≡ Ok value) (λ e. result ≡ Err (part, e)) }
@@ -93,26 +111,23 @@ impl<'a, R: Files> FileKeeper<'a, R> {
     ) -> Result<FileKeeper<'a, R>, NoMemory>
         ensures { IfOk result (λ k. (⟦<FileKeeper<'a, R> as Keeper>⟧.state k).faults ≡ 0) }
     {
+        let regions = RegionFiles::new(alloc, files, name)?;
         let Ok(folder) = String::from_str(alloc, split_path(path.as_str()).0) else {
             return Err(NoMemory);
         };
-        let Ok(beside) = format!(in alloc; "{}.next", path) else {
-            return Err(NoMemory);
-        };
-        let (Ok(left), Ok(text)) = (
-            Vec::with_capacity(alloc, LONG),
-            Vec::with_capacity(alloc, LONG),
-        ) else {
-            return Err(NoMemory);
-        };
+        let beside = with_next(alloc, path.as_str())?;
+        let left = text_room(alloc)?;
+        let seen = text_room(alloc)?;
+        let text = text_room(alloc)?;
         Ok(FileKeeper {
             files,
-            regions: RegionFiles::new(alloc, files, name)?,
+            regions,
             folder,
             path,
             beside,
             id,
             left,
+            seen,
             text,
             faults: 0,
             trouble: None,
@@ -199,12 +214,23 @@ impl<'a, R: Files> FileKeeper<'a, R> {
     fn compare(&mut self) -> io::Result<()>
         ensures { self.new.faults ≡ self.old.faults }
     {
-        read_text(self.files, self.path.as_str(), &mut self.text)?;
-        if self.text.as_slice() == self.left.as_slice() {
+        read_text(self.files, self.path.as_str(), &mut self.seen)?;
+        if self.seen.as_slice() == self.left.as_slice() {
             Ok(())
         } else {
             Err(Error::other("another run has changed it"))
         }
+    }
+
+    // Puts what was written beside in the file's place, if that is as it was left, and looks whether it is there: where two
+    // runs do so at once, what lies beside is that of the last one.
+    fn take_place(&mut self) -> io::Result<()>
+        ensures { self.new.faults ≡ self.old.faults }
+    {
+        self.compare()?;
+        rename(self.files, self.beside.as_str(), self.path.as_str())?;
+        swap(&mut self.left, &mut self.text);
+        self.compare()
     }
 
     // Writes another text beside the file's.
@@ -228,11 +254,7 @@ impl<'a, R: Files> FileKeeper<'a, R> {
     {
         at(Part::Mark, self.compare())?;
         at(Part::Beside, self.write(mark))?;
-        at(
-            Part::Mark,
-            rename(self.files, self.beside.as_str(), self.path.as_str()),
-        )?;
-        swap(&mut self.left, &mut self.text);
+        at(Part::Mark, self.take_place())?;
         at(Part::Folder, settle(self.files, self.folder.as_str()))
     }
 

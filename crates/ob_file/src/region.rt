@@ -50,6 +50,15 @@ pub fn create<R: Files>(files: &R, path: &str) -> io::Result<R::File> {
     make_new(files, path)
 }
 
+/// Makes a region's file, in the place of what has its name where it `replaces` that, and else where nothing is.
+pub fn make_region<R: Files>(files: &R, path: &str, replaces: bool) -> io::Result<R::File> {
+    if replaces {
+        create(files, path)
+    } else {
+        make_new(files, path)
+    }
+}
+
 /// Whether an open file is still the one that has its name: others may have taken it away.
 pub fn is_named<R: Files, F: OpenFile>(files: &R, file: &F, path: &str) -> io::Result<bool> {
     let held = file.metadata()?;
@@ -70,10 +79,19 @@ pub fn settle_region<R: Files>(files: &R, opened: &Opened<R::File>) -> io::Resul
     }
 }
 
+/// Removes the file of a region, if it still has its name: where others have taken it away, another of theirs may have it.
+pub fn take_away<R: Files>(files: &R, opened: &Opened<R::File>) -> io::Result<()> {
+    if is_named(files, &opened.file, opened.path.as_str())? {
+        remove_file(files, opened.path.as_str())
+    } else {
+        Err(Error::other("it was taken away"))
+    }
+}
+
 /// Closes the file of a region and removes it, where the file system lets it; what it took of the disk is freed before.
 pub fn remove<R: Files>(files: &R, opened: Opened<R::File>) {
     let _ = opened.file.set_len(0);
-    let _ = remove_file(files, opened.path.as_str());
+    let _ = take_away(files, &opened);
 }
 
 /// Opens a file to be read and written. A link isn't followed, and nothing is waited for.

@@ -8,7 +8,9 @@ ghost use Rattle.ob_file.specs.Regions.{IsFresh, fresh_live, shape_of};
 
 use crate::complaint::Complaint;
 use crate::folder::{NAMES, names_in, region_in, settle, split_path};
-use crate::region::{Opened, Size, make_new, read, remove, reopen, settle_region, write};
+use crate::region::{
+    Opened, Size, make_region, read, remove, reopen, settle_region, take_away, write,
+};
 use itoa::Buffer;
 use ob_base::{Access, Failed, NoMemory, StoreErr};
 use ob_store::{BlockStore, GivenUp, Lasting, Log, Saving};
@@ -33,6 +35,8 @@ pub struct FileStore<'a, R: Files> {
     alloc: Global,
     files: &'a R,
     name: String,
+    // whether a region's file takes the place of what has its name
+    replaces: bool,
     log: Log,
     // those that live, whether they were given up or not
     regions: BTreeMap<u64, Size>,
@@ -96,9 +100,9 @@ fn keep(buffer: &mut [u8], block: &[u8])
 }
 
 impl<'a, R: Files> FileStore<'a, R> {
-    /// A store of which nothing was asked, whose files have names that begin with this one and a dot. It takes its
-    /// memory of `alloc`.
-    pub fn new(alloc: Global, files: &'a R, name: String) -> FileStore<'a, R>
+    /// A store of which nothing was asked, whose files have names that begin with this one and a dot. A region's file takes
+    /// the place of what has its name where it `replaces` that, and else isn't made there. It takes its memory of `alloc`.
+    pub fn new(alloc: Global, files: &'a R, name: String, replaces: bool) -> FileStore<'a, R>
     where
         R::File: FileExt,
         ensures { (⟦<FileStore<'a, R> as BlockStore>⟧.state result).asked ≡ [] }
@@ -107,6 +111,7 @@ impl<'a, R: Files> FileStore<'a, R> {
             alloc,
             files,
             name,
+            replaces,
             log: Log::new(alloc),
             regions: BTreeMap::new(alloc),
             opened: BTreeMap::new(alloc),
@@ -219,7 +224,7 @@ where
         let Ok(path) = self.path_of(region) else {
             return Err(StoreErr::NoMemory);
         };
-        let file = match make_new(self.files, path.as_str()) {
+        let file = match make_region(self.files, path.as_str(), self.replaces) {
             Ok(file) => file,
             Err(error) => {
                 self.faults = self.faults.saturating_add(1);
@@ -291,7 +296,7 @@ where
         self.log.push(Access::Discard { region });
         let _ = self.regions.remove(&region);
         let done = match self.opened.remove(&region) {
-            Some(gone) => fs::remove_file(self.files, gone.path.as_str()).is_ok(),
+            Some(gone) => take_away(self.files, &gone).is_ok(),
             None => false,
         };
         if done {

@@ -11,7 +11,7 @@ pub enum Program {
 
 // The version, the kit that it is built with, and the form of a store's files.
 fn version<'a>() -> &'a str {
-    "0.1, of rattle-kit-13f logic dac8208d650f15bf, for files of form ribquince 1"
+    "0.1, of rattle-kit-13b logic dac8208d650f15bf, for files of form ribquince 1"
 }
 
 /// What a word says, the values that it may have, and what holds without it.
@@ -24,15 +24,15 @@ pub fn says<'a>(name: &str) -> &'a str {
         "pad" => "rows to which results are padded: 1 to 1048576 [default: they aren't]",
         "stash" => "slots of an index's stash: 1 to 1024 [default: 32]",
         "batch" => "INSERTs served together: 2 to 65535 [default: each by itself]",
-        "flight" => "SELECTs in turns: 2 to 8, and a start below 2^64 [default: by itself]",
+        "flight" => "SELECTs in turns: 2 to 8, and a start below 2^64 [default: each by itself]",
         "max-input" => "bytes of the input: 1024 to 1073741824 [default: 1073741824]",
-        "gen" => "a text in place of the input: a start below 2^64, and 1 to 4096 rows",
+        "gen" => "a text for the input: X below 2^64, 1 to 4096 rows [default: it is read]",
         "trace" => "the accesses are written to standard error",
         "store" => "where the store lies [default: oblidb-store]",
         "save" => "tables are saved behind each statement",
         "keep" => "tables are kept at the end of the run alone",
-        "mark" => "where the mark lies [default: NAME.mark]",
-        "meddle" => "what others change in the store: at most 64 changes",
+        "mark" => "where the mark lies [default: NAME.mark, or where that points]",
+        "meddle" => "what others do to the store: 1 to 64 changes [default: nothing]",
         _ => "",
     }
 }

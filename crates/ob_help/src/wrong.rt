@@ -14,23 +14,43 @@ pub struct WrongWord {
     pub reason: String,
 }
 
-/// How many words have values that may be wrong.
-const VALUES: usize = 10;
+/// How many ways there are in which a word may be wrong.
+const WAYS: usize = 16;
 
-// The names of these words.
-fn name_of<'a>(i: usize) -> &'a str {
+// A word, those on which it hangs, two at most, and what it may be with them: first each by itself.
+fn way<'a>(i: usize) -> ([&'a str; 3], &'a str) {
     match i {
-        0 => "buffer",
-        1 => "pack",
-        2 => "depth",
-        3 => "plan",
-        4 => "pad",
-        5 => "stash",
-        6 => "batch",
-        7 => "flight",
-        8 => "max-input",
-        _ => "gen",
+        0 => (["buffer", "", ""], says("buffer")),
+        1 => (["pack", "", ""], says("pack")),
+        2 => (["depth", "", ""], says("depth")),
+        3 => (["plan", "", ""], says("plan")),
+        4 => (["pad", "", ""], says("pad")),
+        5 => (["stash", "", ""], says("stash")),
+        6 => (["batch", "", ""], says("batch")),
+        7 => (["flight", "", ""], says("flight")),
+        8 => (["max-input", "", ""], says("max-input")),
+        9 => (["gen", "", ""], says("gen")),
+        10 => (["buffer", "pack", ""], says("buffer")),
+        11 => (
+            ["pad", "plan", ""],
+            "it doesn't go with --plan continuous or hash",
+        ),
+        12 => (["flight", "batch", ""], "it doesn't go with --batch"),
+        13 => (
+            ["flight", "plan", ""],
+            "it doesn't go with --plan large, continuous or hash",
+        ),
+        14 => (["keep", "save", ""], "it doesn't go with --save"),
+        _ => (
+            ["mark", "save", "keep"],
+            "it goes with --save or --keep alone",
+        ),
     }
+}
+
+// Whether a word has no value.
+fn is_flag(name: &str) -> bool {
+    name == "save" || name == "keep"
 }
 
 // A word, and what isn't right with it.
@@ -64,18 +84,45 @@ fn quoted(line: &str) -> Option<&str> {
 fn refused(alloc: Global, error: &Error) -> Result<WrongWord, NoMemory> {
     let text = text_of(alloc, error)?;
     let line = first_line(text.as_str());
-    wrong(alloc, quoted(line).unwrap_or("the words"), line)
+    match quoted(line) {
+        None => wrong(alloc, "the words", line),
+        Some("") => wrong(alloc, "an empty word", line),
+        Some(word) => wrong(alloc, word, line),
+    }
 }
 
-// Whether the program takes a word with this value, alone.
-fn is_taken(alloc: Global, name: &str, value: &str) -> Result<bool, NoMemory> {
-    let Ok(word) = format!(in alloc; "--{}={}", name, value) else {
-        return Err(NoMemory);
+// A word that is given, as it stands on the command line.
+fn spelt(alloc: Global, name: &str, value: &str) -> Result<String, NoMemory> {
+    let spelt = if is_flag(name) {
+        format!(in alloc; "--{}", name)
+    } else {
+        format!(in alloc; "--{}={}", name, value)
     };
-    let mut words = Vec::new(alloc);
-    if words.push(word).is_err() {
-        return Err(NoMemory);
+    match spelt {
+        Ok(word) => Ok(word),
+        Err(_) => Err(NoMemory),
     }
+}
+
+// Those of these words that are given.
+fn given(alloc: Global, matches: &ArgMatches, names: &[&str]) -> Result<Vec<String>, NoMemory> {
+    let mut words = Vec::new(alloc);
+    for name in names {
+        if let Some(value) = matches.get_str(name) {
+            if !is_flag(name) || value == "true" {
+                let word = spelt(alloc, name, value)?;
+                if words.push(word).is_err() {
+                    return Err(NoMemory);
+                }
+            }
+        }
+    }
+    Ok(words)
+}
+
+// Whether the program takes those of these words that are given, and no others.
+fn are_taken(alloc: Global, matches: &ArgMatches, names: &[&str]) -> Result<bool, NoMemory> {
+    let words = given(alloc, matches, names)?;
     match read_saved_words(alloc, &words) {
         Ok(_) => Ok(true),
         Err(WordsErr::Usage) => Ok(false),
@@ -83,27 +130,25 @@ fn is_taken(alloc: Global, name: &str, value: &str) -> Result<bool, NoMemory> {
     }
 }
 
-// What isn't right with the value of a word.
-fn misfit(alloc: Global, name: &str) -> Result<WrongWord, NoMemory> {
+// What isn't right with a word.
+fn misfit(alloc: Global, name: &str, reason: &str) -> Result<WrongWord, NoMemory> {
     match format!(in alloc; "--{}", name) {
-        Ok(word) => wrong(alloc, word.as_str(), says(name)),
+        Ok(word) => wrong(alloc, word.as_str(), reason),
         Err(_) => Err(NoMemory),
     }
 }
 
-// The first word whose value is none that it may have; else that they don't go together.
+// The first word that isn't what it may be.
 fn misfits(alloc: Global, matches: &ArgMatches) -> Result<WrongWord, NoMemory> {
-    for i in 0..VALUES {
-        if let Some(value) = matches.get_str(name_of(i)) {
-            match is_taken(alloc, name_of(i), value) {
-                Ok(true) => {}
-                Ok(false) => return misfit(alloc, name_of(i)),
-                Err(error) => return Err(error),
-            }
+    for i in 0..WAYS {
+        let (names, reason) = way(i);
+        match are_taken(alloc, matches, &names) {
+            Ok(true) => {}
+            Ok(false) => return misfit(alloc, names[0], reason),
+            Err(error) => return Err(error),
         }
     }
-    let reason = "they don't go together: --help has what each may have";
-    wrong(alloc, "the words", reason)
+    wrong(alloc, "the words", "they don't go together")
 }
 
 /// Which word isn't right, of words that `oblidb` doesn't take, and why.

@@ -19,7 +19,7 @@ use Rattle.ob_shell.proofs.TraceLemmas.{traced_cut, traced_then, traced_whole}
 use Rattle.ob_shell.proofs.WaitLemmas.{answered_but, break_then, so_then, steps_flown, steps_most, steps_tables}
 use Rattle.ob_shell.specs.Feeding.{Fed, Fetch}
 use Rattle.ob_shell.specs.Running.{IsQuiet, OutFailed, Silenced, SoFar, StopCause, is_quiet, stop_of}
-use Rattle.ob_shell.specs.Serving.{EndsReading, HasRead, IsNotTaken, ReadsTexts, StandsReady, TakesMore, UnlessServed, WantsRoom, broken_of}
+use Rattle.ob_shell.specs.Serving.{EndsReading, HasRead, IsNotTaken, ReadsTexts, TakesMore, UnlessServed, WantsRoom, broken_of}
 use Rattle.ob_shell.specs.Steps.{AreSpelt, Gathered, Machine, asked_of, standing}
 use Rattle.ob_shell.specs.Traces.{Traced, TracedAll}
 use Rattle.ob_shell.specs.Waiting.{AreWaiting, BreaksIn, ComesFree, IsFree, ServedSo}
@@ -217,11 +217,6 @@ module _ {R T : Type 0} (state : R → RevState) (Saves : Type 0) (on : Bool) (M
   more_traced t0 old new (Ok x) before takes = traced_whole _ (traced_then before takes.traced)
   more_traced t0 old new (Err (Served halted)) before takes = traced_cut before takes.traced_stop
   more_traced t0 old new (Err (Unread stop)) before takes = traced_whole _ (traced_then before takes.0.traced)
-
-  pub more_stands : (old new : ℕ × ℕ) (Took : Type 0) (result : Result T Break) → TakesMore state Saves on May Then b0 b1 texts Why r0 r1 w0 w1 t1 t2 (faults_of 0 old.0 old.1) (faults_of 0 new.0 new.1) m1 m2 result → UnlessServed result Took → UnlessServed result (StandsReady state Saves Took b1 m2)
-  more_stands old new Took (Ok x) takes took = record { ready = takes.ready; waits = takes.waits; took = took }
-  more_stands old new Took (Err (Served halted)) takes took = tt
-  more_stands old new Took (Err (Unread stop)) takes took = record { ready = takes.0.ready; waits = takes.0.waits; took = took }
 
   cause_here : (Alone : Type 0) (s0 s1 : ℕ) (old new : ℕ × ℕ) → s1 ≡ s0 → (result : Result T Break) → ((stop : Stop) → Why stop → (stop ≡ Stops.NoMemory) ⊎ (stop ≡ Stops.InputLimit))
       → TakesMore state Saves on May Then b0 b1 texts Why r0 r1 w0 w1 t1 t2 (faults_of 0 old.0 old.1) (faults_of 0 new.0 new.1) m1 m2 result → StopCause Alone (faults_of s0 old.0 old.1) (faults_of s1 new.0 new.1) (stop_of (broken_of result))

@@ -115,14 +115,6 @@ IsNotTaken pending b InputLimit =
     (texts_at pending b ≡ []) × (is_over (rest_after pending b) ≡ true)
 IsNotTaken pending b _ = ⊥
 
--- what a session goes on from: an engine that may be given the next statement, INSERTs that wait for more or to be served, and
--- a digest that took what was asked
-pub record StandsReady {R : Type 0} (state : R → RevState) (Saves Took : Type 0)
-    (batch : List Stmt) (m : Machine R) : Type 0 where
-  pub ready : IsReady state Saves m
-  pub waits : AreWaiting m.flights.settings (public_of m.engine) (asked_of m) batch
-  pub took : Took
-
 -- ---- until no more is read
 -- how the reading ended: at the end of the input, or by its source, a limit or want of memory
 abbrev pub EndsReading : (feed1 : Fetch) (ended : Bool) (bytes : List ℕ) (more : List (List ℕ))

@@ -15,7 +15,7 @@ use Rattle.ob_vault.specs.Numbers.{number_after, last_number, IsNumber, IsStart,
 use Rattle.ob_base.specs.Accesses.{writes, makes}
 
 -- the vault's numbers are those of the accesses, its regions are live in the store, and no region of an earlier run was
--- written
+-- written, except one that is linked
 pub record Tied (w : World) : Type 0 where
   pub start : IsStart w.vault.start
   pub count : w.vault.count ≡ w.vault.start.writes + writes w.store.asked

@@ -11,7 +11,7 @@ ghost use Rattle.ob_vault.specs.Tied.{AllSealed, Calm, IsOwn, TagFits, Holds, Re
 ghost use Rattle.ob_vault.specs.Rekeying.{rekeyed};
 
 /// No two writes have one number, and the number of a place is that of a write to it alone; and a run writes to
-/// regions of its own.
+/// regions of its own, or to those that are linked.
 pub fn numbers_are_apart()
     ensures writes { (w : World) (i j q x r y : ℕ) → IsWrite i q x w → IsWrite j r y w
         → write_number i w ≡ write_number j w → i ≡ j }
@@ -22,8 +22,8 @@ pub fn numbers_are_apart()
         → (q ≡ r) × (x ≡ y) }
     ensures own { (w : World) (i q x : ℕ) → Tied w → IsWrite i q x w
         → MayWrite w.vault.start q }
-    // under its salt, if it has one: so no two blocks, of one run or of two that have different
-    // salts, are sealed under one salt and one number
+    // a write to a region of its own is under its salt, if it has one: so no two such blocks, of one run
+    // or of two that have different salts, are sealed under one salt and one number
     ensures salted { (secret salt : List ℕ) (earlier : List Salted) (w : World) (i q x : ℕ) → Tied w
         → w.vault.keys ≡ keys_salted secret salt earlier
         → AreBefore (w.vault.start.region + 1) earlier → IsWrite i q x w

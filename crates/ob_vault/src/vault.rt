@@ -245,7 +245,7 @@ impl<R: Revisions> Vault<R> {
         }
     }
 
-    /// Seals rows under the next write number, and writes their block, in a region that this run made.
+    /// Seals rows under the next write number, and writes their block, in a region that this run made, or one that is linked.
     pub fn put<S: BlockStore>(
         &mut self,
         store: &mut S,

@@ -28,6 +28,13 @@ fn complain(rt: &HostRuntime, said: &Complaint) {
     };
 }
 
+// Says that memory ran out, for which none is needed.
+fn lacks_memory(rt: &HostRuntime) {
+    let stderr = rt.stderr();
+    let mut err = io::writer(&stderr);
+    let _ = err.write_all(b"oblidb: memory: it ran out\n");
+}
+
 // Writes a text, and ends well where it could be written.
 fn tell(rt: &HostRuntime, text: &str) -> ExitCode {
     let stdout = rt.stdout();
@@ -39,14 +46,15 @@ fn tell(rt: &HostRuntime, text: &str) -> ExitCode {
 }
 
 // The end of a run that didn't begin.
-fn end(rt: &HostRuntime, error: StartErr, said: &mut Complaint) -> ExitCode {
+fn end(rt: &HostRuntime, error: StartErr, said: &Complaint) -> ExitCode {
     let stdout = rt.stdout();
     let mut out = io::writer(&stdout);
     let _ = out.write_all(error.line().as_bytes());
     if error == StartErr::NoMemory {
-        said.say(&[PROGRAM], Error::other("out of memory"));
+        lacks_memory(rt);
+    } else {
+        complain(rt, said);
     }
-    complain(rt, said);
     ExitCode::from(error.status())
 }
 
@@ -82,7 +90,8 @@ fn serve(rt: &HostRuntime, words: &[String], begun: Begun, said: &mut Complaint)
     let Ok(mut keeper) = FileKeeper::new(rt.alloc(), rt, kept, place, id) else {
         return end(rt, StartErr::NoMemory, said);
     };
-    let mut store = FileStore::new(rt.alloc(), rt, name);
+    let replaces = matches!(&holds, Holds::Kept(_));
+    let mut store = FileStore::new(rt.alloc(), rt, name, replaces);
     let stdout = rt.stdout();
     let stderr = rt.stderr();
     let mut input = StdSource::new(rt.reader());
@@ -129,7 +138,7 @@ fn main(rt: HostRuntime) -> ExitCode {
         Ok(_streams) => run(&rt, &mut said),
         Err(error) => {
             said.say(&["/"], error);
-            end(&rt, StartErr::Failed, &mut said)
+            end(&rt, StartErr::Failed, &said)
         }
     }
 }

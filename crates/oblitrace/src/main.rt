@@ -6,13 +6,16 @@ use ob_help::{Program, told};
 use ob_io::{StdSink, StdSource};
 use ob_shell::meddle_top;
 use std::fs::File;
-use std::io::Write;
+use std::io::{ErrorKind, Write};
 use std::process::ExitCode;
 use std::rt::Env;
 use std::{env, io};
 
-/// The exit status where the words can't be had.
-const NO_WORDS: u8 = 7;
+/// The exit status where a word is none.
+const USAGE: u8 = 2;
+
+/// The exit status where memory ran out.
+const NO_MEMORY: u8 = 7;
 
 /// The exit status where a text can't be written.
 const NO_SINK: u8 = 6;
@@ -36,6 +39,19 @@ fn tell(rt: &HostRuntime, text: &str) -> ExitCode {
     }
 }
 
+// The end of a run that didn't begin, whose words can't be had: one is no UTF-8, or memory ran out.
+fn end(rt: &HostRuntime, is_usage: bool) -> ExitCode {
+    let stdout = rt.stdout();
+    let mut out = io::writer(&stdout);
+    if is_usage {
+        let _ = out.write_all(b"! usage\n");
+        ExitCode::from(USAGE)
+    } else {
+        let _ = out.write_all(b"! no memory\n");
+        ExitCode::from(NO_MEMORY)
+    }
+}
+
 // Serves the input.
 fn serve(rt: &HostRuntime, words: &[String]) -> ExitCode {
     let stdout = rt.stdout();
@@ -49,13 +65,14 @@ fn serve(rt: &HostRuntime, words: &[String]) -> ExitCode {
 
 // What the words ask for: to be told of them, or a run.
 fn run(rt: &HostRuntime) -> ExitCode {
-    let Ok(words) = words(rt) else {
-        return ExitCode::from(NO_WORDS);
+    let words = match words(rt) {
+        Ok(words) => words,
+        Err(error) => return end(rt, error.kind() == ErrorKind::InvalidData),
     };
     match told(rt.alloc(), Program::Oblitrace, &words) {
         Ok(None) => serve(rt, &words),
         Ok(Some(text)) => tell(rt, text.as_str()),
-        Err(_) => ExitCode::from(NO_WORDS),
+        Err(_) => end(rt, false),
     }
 }
 
