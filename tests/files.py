@@ -101,7 +101,7 @@ def no_folder(at):
     """A folder that isn't there: nobody can be kept from it, and nothing is made."""
     folder = at.folder("a folder that is not there")
     ran = runs.run([at.program, "--store", os.path.join(folder, "none", "s")], runs.KEY + MADE + COUNT)
-    well = (ran.lines, ran.status) in ((["! keeper fault"], 10), (["! store fault"], 3)) and runs.complains(ran)
+    well = (ran.lines, ran.status) == (["! keeper fault"], 10) and runs.complains(ran)
     at.tests.say("a folder that is not there", well and os.listdir(folder) == [], f"{ran}")
 
 
@@ -135,12 +135,12 @@ def failing_flights(at):
         typed.type("DELETE FROM t WHERE id = 3;\n" + COUNT + "DROP TABLE none;\n")
         got += typed.lines(5)
         typed.until_it_waits()
-        there = runs.numbered(folder, "s.")
+        there, opened = runs.numbered(folder, "s."), runs.open_regions(typed.child.pid)
         rest, status = typed.end()
         wanted = (FAULT * 2 + ["E02 no table"]) * 50 + ["= 1 deleted", *TWO, "E02 no table"]
-        found = (made + got + rest, status, len(there))
+        found = (made + got + rest, status, len(there), len(opened))
         name = f"100 SELECTs that fail{', in flight' if words else ''}, where few files may be open"
-        at.tests.say(name, found == (MADE_LINES + ["= inserted"] * 2 + wanted, 1, 1), f"{found[1:]}, {got[:3]}, {got[-4:]}")
+        at.tests.say(name, found == (MADE_LINES + ["= inserted"] * 2 + wanted, 1, 1, 1), f"{found[1:]}, {got[:3]}, {got[-4:]}, {opened}")
 
 
 # With --batch an INSERT is answered with the text that ends its batch, or that makes it full. What is typed at once, and what

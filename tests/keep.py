@@ -241,8 +241,7 @@ def two_marks(at):
     typed = at_work(at, folder, MADE)
     typed.line()
     ran = at.run(folder, MADE, "--mark", os.path.join(safe, "m"))
-    well = ran.status == 9 and ran.lines in (BUSY, ["! no mark"]) and not os.path.exists(os.path.join(safe, "m"))
-    at.tests.say("a first run with another mark beside one at work", well, f"{ran}")
+    at.expect("a first run with another mark beside one at work", ran, BUSY, 9, not os.path.exists(os.path.join(safe, "m")))
     at.expect("one without a word beside one at work", at.run(folder, MADE, keep=()), ["! kept"], 2)
     at.tests.say("which ends as it should", typed.end() == (["= inserted"], 0), "otherwise")
 

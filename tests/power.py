@@ -40,6 +40,8 @@ Names = collections.namedtuple("Names", "changes")
 # A moment: all nodes, what was answered by then, and of which run.
 Moment = collections.namedtuple("Moment", "nodes said run before")
 ROOT, DISK, SAFE = 0, 1, 2
+# So many states of each workload where nothing else is said, and of all of them together at least.
+MANY, ENOUGH = 500, 2000
 THERE, GONE, TORN, ZEROS = "there", "gone", "torn", "zeros"
 
 
@@ -358,7 +360,7 @@ def try_workload(tests, program, workload, words, folder):
 def main():
     reader = argparse.ArgumentParser(description="what a power cut may leave")
     reader.add_argument("programs", nargs="?", default=runs.TOP / "crates")
-    reader.add_argument("--states", type=int, default=500)
+    reader.add_argument("--states", type=int, default=MANY)
     reader.add_argument("--seed", default="0")
     reader.add_argument("--only")
     words = reader.parse_args()
@@ -371,7 +373,8 @@ def main():
         if words.only in (None, workload.name):
             with runs.room() as folder:
                 count += try_workload(tests, program, workload, words, folder)
-    print(f"{count} states")
+    if words.only is None and words.states >= MANY:
+        tests.say(f"{count} states of {len(workloads.WORKLOADS)} workloads", count >= ENOUGH and len(workloads.WORKLOADS) >= 10, "too few")
     tests.end()
 
 

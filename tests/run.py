@@ -1,11 +1,11 @@
 #!/usr/bin/env python3
-"""Runs the tests of the program over files: of files, marks, saving, slips and the guide whole, and a part of those of what a power
-cut may leave and of calls that fail, drawn behind a number that is always the same. Prints what isn't as it should be and what
-this machine can't try, and last how much passed, of all of them together.
+"""Runs the tests of the program over files: of files, marks, saving, slips, others at work, the guide and the documents whole, and
+a part of those of what a power cut may leave and of calls that fail, drawn from a number that is always the same. Prints what
+isn't as it should be and what this machine can't try, and last how much passed, of all of them together.
 
 usage: tests/run.py [PROGRAMS]
 Needs the programs oblidb and oblitrace in PROGRAMS (crates/ without it, where `rt ci` leaves them) and python3; what needs strace
-or root is left out where that isn't there. Takes a minute on four processors.
+or root is left out, with a word, where that isn't there. Takes a minute or two on two processors.
 """
 import pathlib
 import re
@@ -15,8 +15,11 @@ import sys
 import runs
 
 PARTS = [
-    ["files.py"], ["keep.py"], ["save.py", "--calls", "80"], ["slips.py"], ["guide.py"], ["power.py", "--states", "100"], ["faults.py", "--faults", "60"],
+    ["files.py"], ["keep.py"], ["save.py", "--calls", "80"], ["slips.py"], ["others.py"], ["guide.py"], ["documents.py"], ["power.py", "--states", "100"],
+    ["faults.py", "--faults", "60"],
 ]
+# No part is stopped that comes to its end: this is for one that never would.
+NEVER = 3600
 LAST = re.compile(r"([0-9]+) passed, ([0-9]+) failed")
 
 
@@ -25,13 +28,14 @@ def part(words, folder):
     name, *more = words
     command = [sys.executable, "-B", str(pathlib.Path(__file__).with_name(name)), folder, *more]
     try:
-        ran = subprocess.run(command, stdin=subprocess.DEVNULL, stdout=subprocess.PIPE, stderr=subprocess.STDOUT, timeout=runs.LONGEST)
+        ran = subprocess.run(command, stdin=subprocess.DEVNULL, stdout=subprocess.PIPE, stderr=subprocess.STDOUT, timeout=NEVER)
         lines = ran.stdout.decode(errors="replace").splitlines()
+        status = ran.returncode
     except subprocess.TimeoutExpired as stopped:
-        lines = [*(stopped.stdout or b"").decode(errors="replace").splitlines(), "it isn't over"]
+        lines, status = [*(stopped.stdout or b"").decode(errors="replace").splitlines(), "it isn't over"], None
     last = LAST.fullmatch(lines[-1]) if lines else None
-    if last is None:
-        return 0, 1, lines[-40:]
+    if last is None or status != (last[2] != "0"):
+        return 0, 1, [*lines[-40:], f"status {status}"]
     return int(last[1]), int(last[2]), [line for line in lines[:-1] if not line.endswith(": as it should be")]
 
 

@@ -100,15 +100,18 @@ def put(path, text):
         file.write(text if isinstance(text, bytes) else text.encode())
 
 
-def limits(size=None, handles=None):
-    """What puts a process under a limit of the size of files, or of how many are open, before it begins."""
+def limits(size=None, handles=None, memory=None, space=None):
+    """What puts a process under a limit of the size of files, of how many are open, of the memory that it writes to, or of all that
+    it has, before it begins."""
+    given = ((resource.RLIMIT_FSIZE, size), (resource.RLIMIT_NOFILE, handles), (resource.RLIMIT_DATA, memory), (resource.RLIMIT_AS, space))
+
     def limited():
         signal.signal(signal.SIGXFSZ, signal.SIG_IGN)
-        if size:
-            resource.setrlimit(resource.RLIMIT_FSIZE, (size, size))
-        if handles:
-            resource.setrlimit(resource.RLIMIT_NOFILE, (handles, handles))
-    return limited if size or handles else None
+        resource.setrlimit(resource.RLIMIT_CORE, (0, 0))
+        for kind, most in given:
+            if most is not None:
+                resource.setrlimit(kind, (most, most))
+    return limited if any(most is not None for _, most in given) else None
 
 
 def lower_size(child, size):
@@ -150,6 +153,13 @@ def number(name):
     return int(name.rpartition(".")[2])
 
 
+def open_regions(pid):
+    """The files of regions that a process has open, those that are removed, too."""
+    handles = f"/proc/{pid}/fd"
+    places = [os.readlink(os.path.join(handles, handle)) for handle in os.listdir(handles)]
+    return [place for place in places if re.search(rf"/s(/r)?\.{NUMBER}( \(deleted\))?$", place)]
+
+
 def contents(folder, names):
     """The bytes of each of these."""
     return {name: read(os.path.join(folder, name)) for name in names}
@@ -178,8 +188,9 @@ class Typed:
     """A run whose input is typed bit by bit."""
 
     def __init__(self, command, folder=None, limited=None):
+        self.said = tempfile.TemporaryFile()
         self.child = subprocess.Popen(
-            command, stdin=subprocess.PIPE, stdout=subprocess.PIPE, stderr=subprocess.DEVNULL, text=True, cwd=folder, preexec_fn=limited
+            command, stdin=subprocess.PIPE, stdout=subprocess.PIPE, stderr=self.said, text=True, cwd=folder, preexec_fn=limited
         )
 
     def type(self, text):
@@ -198,18 +209,32 @@ class Typed:
         """So many lines, or those that there are."""
         return [line.rstrip("\n") for line in itertools.islice(self.child.stdout, count)]
 
+    def process(self):
+        """The number of the program's process, which may have been begun by another one."""
+        pid = self.child.pid
+        below = f"/proc/{pid}/task/{pid}/children"
+        inner = read(below).split() if os.path.exists(below) else []
+        return int(inner[0]) if inner else pid
+
     def until_it_waits(self):
         """Waits until all that was typed is read, and the run waits for more, or has ended."""
-        pid = self.child.pid
         while self.child.poll() is None:
-            below = f"/proc/{pid}/task/{pid}/children"
-            inner = read(below).split() if os.path.exists(below) else []
-            state = text_of("/proc", f"{int(inner[0]) if inner else pid}/stat") or ") Z"
+            state = text_of("/proc", f"{self.process()}/stat") or ") Z"
             waiting = array.array("i", [0])
             fcntl.ioctl(self.child.stdin.fileno(), termios.FIONREAD, waiting)
             if state.rpartition(")")[2].split()[0] == "S" and not waiting[0]:
                 return
             time.sleep(0.001)
+
+    def until_it_stops(self, trace):
+        """Waits until a run stands still that is traced into this file, or has ended."""
+        while self.child.poll() is None and b"stopped by SIGSTOP" not in read(trace):
+            time.sleep(0.001)
+
+    def goes_on(self):
+        """Lets a run go on that stands still."""
+        if self.child.poll() is None:
+            os.kill(self.process(), signal.SIGCONT)
 
     def kill(self):
         """Kills the run."""
@@ -223,3 +248,9 @@ class Typed:
         except BrokenPipeError:
             pass
         return self.child.stdout.read().splitlines(), self.child.wait()
+
+    def ran(self):
+        """The same, and what it says on standard error."""
+        lines, status = self.end()
+        self.said.seek(0)
+        return Ran(lines, status, self.said.read().decode(errors="replace"))

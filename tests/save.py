@@ -238,6 +238,24 @@ def full_disk(at):
     at.expect("and all of it is free again", at.run(folder, LOOK), *looked(behind(FIRST + THEN[:1])), len(regions_of(folder)) == 2)
 
 
+def given_up(at):
+    """SELECTs in flight whose results find no room: nothing of them stays, while the run is at work or after it."""
+    for save, first, count in (("--save", runs.REGION, 2), ("--keep", runs.KEPT_REGION, 1)):
+        folder, = at.made(f"given up {save}")
+        one = runs.Typed(at.command(folder, "--flight", "2,0", save=(save,)), limited=runs.limits(handles=24))
+        one.type(KEY + typed(FIRST + insert("t", (2, 20))))
+        made = one.lines(3)
+        runs.lower_size(one.child, 49)
+        one.type(typed(("SELECT * FROM t WHERE v > 0;",) * 2 + ("DROP TABLE none;",)) * 50)
+        got = one.lines(150)
+        runs.lower_size(one.child, None)
+        found = len(runs.numbered(folder, first)), len(runs.open_regions(one.child.pid))
+        rest, status = one.end()
+        well = made + got == said(FIRST + insert("t", (2, 20)), ()) + (FAULT * 2 + ["E02 no table"]) * 50 and found == (count, count)
+        left = len(runs.numbered(folder, first))
+        at.tests.say(f"100 SELECTs in flight that fail, {save}", well and (rest, status, left) == ([], 1, 2), f"{got[:3]}, {found}, {rest}, {status}, {left}")
+
+
 def heads(at):
     """A reader that goes away."""
     for rows in (1, 2):
@@ -319,16 +337,43 @@ def shows(at):
     one, other = (written(at, place, WIDE + inserts(text), save=()) for place, text in ((folder, TEXT), (beside, OTHERS)))
     enough = len(one) == len(other) > 12
     at.tests.say("nor two runs with one secret and no word", enough and shown(one, other) == 0, f"{len(one)} blocks, {shown(one, other)} pairs")
-    indexed = (create("i", 64)[:-1] + " INDEXED;", *insert("i", *((n, n) for n in range(8))))
-    one, other = (at.run(place, indexed, "--trace", save=()).said for place in at.made("an index", "an index, again"))
-    well = one.count("\n") == other.count("\n") > 8 and one != other
-    at.tests.say("nor have they the leaves of an index in common", well, f"{one.count(chr(10))} and {other.count(chr(10))} accesses")
     folder, = at.made("a killed run and the next")
     at.run(folder, WIDE)
     killed = written(at, folder, inserts(TEXT), killed=("rename", "rename:signal=SIGKILL:when=1"))
     then = written(at, folder, inserts(OTHERS))
     well = len(killed) == 6 and len(then) == 12 and shown(killed, then) == 0
     at.tests.say("a killed run and the next show nothing", well, f"{len(killed)} and {len(then)} blocks, {shown(killed, then)} pairs")
+
+
+def lying(at, name, save):
+    """The blocks of a table, and of what lists it, that lie there while a run is at work."""
+    folder, = at.made(name)
+    one = runs.Typed(at.command(folder, save=save))
+    one.type(KEY + typed(WIDE + inserts(TEXT)))
+    one.lines(len(WIDE + inserts(TEXT)))
+    first = runs.REGION if save == ("--save",) else runs.KEPT_REGION
+    files = [runs.read(os.path.join(folder, name)) for name in runs.numbered(folder, first)]
+    one.end()
+    return [held[start : start + size] for held in files for size in [wide_block(len(held))] for start in range(0, len(held), size)]
+
+
+def wide_block(size):
+    """How long the blocks of a region are that has so many bytes: one of a list's, or one of a number and a text of 60 bytes."""
+    return 1056 if size % 1056 == 0 else 102
+
+
+def salted(at):
+    """Two runs with one secret and equal rows: each has keys of its own, and draws leaves of its own, except with --keep."""
+    for save, count in (((), 4), (("--save",), 6), (("--keep",), 4)):
+        word = " ".join(save) or "no word"
+        one, other = lying(at, f"{word} once", save), lying(at, f"{word} again", save)
+        well = len(one) == len(other) == count and (one == other if save == ("--keep",) else shown(one, other) == 0)
+        name = f"two runs with one secret and equal rows, {word}: {'the same blocks' if save == ('--keep',) else 'nothing is alike'}"
+        at.tests.say(name, well, f"{len(one)} and {len(other)} blocks, {shown(one, other)} pairs")
+    indexed = (create("i", 64)[:-1] + " INDEXED;", *insert("i", *((n, n) for n in range(8))))
+    one, other = (at.run(place, indexed, "--trace", save=()).said for place in at.made("an index", "an index, again"))
+    well = one.count("\n") == other.count("\n") > 8 and one != other
+    at.tests.say("nor have they the leaves of an index in common", well, f"{one.count(chr(10))} and {other.count(chr(10))} accesses")
 
 
 # ---- blocks of another day, place or run
@@ -419,9 +464,9 @@ def marks(at):
     unchanged("an index", at.run(folder, (create("i")[:-1] + " INDEXED;",)), ["E07 limit"], 1)
     first, second = before.splitlines(keepends=True)
     others = ["saved 1 1 1 1\n" + second, before.replace("saved", "closed"), before.upper(), before[:-1], before[:-1] + "0\n", first, second + first]
-    for line in ("in use\n", *others, before + "\n", before.replace("\n", "\r\n"), ""):
+    for line in ("in use\n" + second, "in use\n", *others, before + "\n", before.replace("\n", "\r\n"), ""):
         runs.put(path, line)
-        wanted = (BUSY, 9) if line == "in use\n" else (KEEPER, 10)
+        wanted = (BUSY, 9) if line == "in use\n" + second else (KEEPER, 10)
         at.expect(f"the mark {line[:30]!r}, of {len(line)} bytes", at.run(folder, LOOK), *wanted, mark_of(folder) == line and bytes_of(folder) == held)
 
 
@@ -440,8 +485,9 @@ def first_lines(at):
     os.mkfifo(os.path.join(folder, f"{runs.REGION}778"))
     kept = os.path.join(folder, f"{runs.REGION}779")
     os.mkdir(kept)
-    well = runs.read(own) == b"mine" and os.path.isdir(kept)
-    at.expect("a link, a pipe and a folder that have regions' names", at.run(folder, LOOK), *looked(behind(FIRST)), well and runs.read(own) == b"mine")
+    ran = at.run(folder, LOOK)
+    stay = runs.read(own) == b"mine" and os.path.isdir(kept)
+    at.expect("a link, a pipe and a folder that have regions' names", ran, *looked(behind(FIRST)), stay)
 
 
 def other_word(at):
@@ -498,7 +544,7 @@ def main():
     words = reader.parse_args()
     tests, program = runs.Tests(), runs.program(words.programs)
     os.umask(0o077)
-    traced, others = (order, hinder, shows, other_runs), (full_disk, heads, stops, other_days, marks, first_lines, other_word, places, pairs)
+    traced, others = (order, hinder, shows, other_runs), (full_disk, given_up, heads, stops, salted, other_days, marks, first_lines, other_word, places, pairs)
     with runs.room() as room:
         at = Folders(tests, program, os.path.realpath(room), words)
         if runs.has("strace"):

@@ -112,6 +112,8 @@ def possible(before, texts, most, answers):
             return found | {served(tables, part)[1][-1] for tables in found}
         at += len(part)
         found = {behind for tables in found if (behind := fits(tables, part, given)) is not None}
+        if len(given) < len(part):
+            break
     return found
 
 
