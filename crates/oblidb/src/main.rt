@@ -85,12 +85,12 @@ fn serve(rt: &HostRuntime, words: &[String], begun: Begun, said: &mut Complaint)
         place,
         id,
         pack,
+        replaces,
         holds,
     } = begun;
     let Ok(mut keeper) = FileKeeper::new(rt.alloc(), rt, kept, place, id) else {
         return end(rt, StartErr::NoMemory, said);
     };
-    let replaces = matches!(&holds, Holds::Kept(_));
     let mut store = FileStore::new(rt.alloc(), rt, name, replaces);
     let stdout = rt.stdout();
     let stderr = rt.stderr();

@@ -21,7 +21,7 @@ pub enum Holds {
 }
 
 /// How the names of the regions' files begin, twice; the place of the mark; the identity of the store, where it has one; the
-/// rows of a block; and what the run holds.
+/// rows of a block; whether a region's file takes the place of what has its name; and what the run holds.
 #[derive(Drop)]
 pub struct Begun {
     pub name: String,
@@ -29,6 +29,7 @@ pub struct Begun {
     pub place: String,
     pub id: Option<[u8; 16]>,
     pub pack: u8,
+    pub replaces: bool,
     pub holds: Holds,
 }
 
@@ -117,6 +118,7 @@ fn save<R: Files<File = File> + AllocGlobal + RandomSource>(
         place,
         id: Some(held.id),
         pack: read.common.config.pack,
+        replaces: false,
         holds: Holds::Saved(held),
     })
 }
@@ -139,6 +141,7 @@ fn keep<R: Files<File = File> + AllocGlobal>(
         place,
         id: None,
         pack: read.common.config.pack,
+        replaces: true,
         holds: Holds::Kept(held),
     })
 }
@@ -160,6 +163,7 @@ fn begin_anew<R: Files<File = File> + AllocGlobal>(
         place,
         id: None,
         pack: read.common.config.pack,
+        replaces: false,
         holds: Holds::Scratch(held),
     })
 }
