@@ -22,8 +22,8 @@ pub fn numbers_are_apart()
         → (q ≡ r) × (x ≡ y) }
     ensures own { (w : World) (i q x : ℕ) → Tied w → IsWrite i q x w
         → MayWrite w.vault.start q }
-    // a write to a region of its own is under its salt, if it has one: so no two such blocks, of one run
-    // or of two that have different salts, are sealed under one salt and one number
+    // a write to a region of its own is under its salt, if it has one: so no two such blocks, of
+    // one run or of two that have different salts, are sealed under one salt and one number
     ensures salted { (secret salt : List ℕ) (earlier : List Salted) (w : World) (i q x : ℕ) → Tied w
         → w.vault.keys ≡ keys_salted secret salt earlier
         → AreBefore (w.vault.start.region + 1) earlier → IsWrite i q x w
