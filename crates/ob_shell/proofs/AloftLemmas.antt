@@ -1,30 +1,15 @@
 -- What statements in flight did, and what was printed of them.
-use Rattle.std.specs.Prelude.{MatchResult, OnOk, slice_get}
-use Rattle.std.proofs.Common.{◌≡◌, ◌⊎◌, ◌+◌, ◌<◌, ◌≤◌, ℕ, zero, suc, List, [], ◌∷◌, ◌++◌, length, Option, Some, Result, Ok, Err, inl, inr, refl, ap, ◌∙◌, arith}
-use Rattle.ob_base.specs.Events.{Event}
-use Rattle.ob_base.specs.declared.seen.Seen.{Seen}
-use Rattle.ob_exec.specs.InFlight.{served_as}
+use Rattle.ob_shell.proofs.Words.{ap, arith, closing_line, Engine, Err, Event, events_text, inl, inr, length, List, Ok, Option, Outcome, printed, public_of, RanAloft, refl, Result, RevState, RunStop, Seen, Sends, served_as, slice_get, Some, Stmt, StoreState, suc, Tally, zero, ℕ, [], ◌++◌, ◌+◌, ◌<◌, ◌∙◌, ◌∷◌, ◌≡◌, ◌≤◌, ◌⊎◌}
+use Rattle.std.specs.Prelude.{MatchResult, OnOk}
 use Rattle.ob_exec.specs.RanFlight.{EndsSo, IsParted, RanFlight, RanInTurns, StopsFlight, asked_by, asked_since}
-use Rattle.ob_headline.specs.Closing.{closing_line}
-use Rattle.ob_headline.specs.Words.{printed}
 use Rattle.ob_inflight.specs.Closing.{Closed, ClosesAll}
 use Rattle.ob_print.proofs.SentLemmas.{Sends-then}
-use Rattle.ob_print.specs.Rows.{events_text}
-use Rattle.ob_print.specs.Sent.{Sends}
-use Rattle.ob_shell.specs.Aloft.{EmitsUntil, FlewWhole, RanAloft, RanTogether, WantsTogether, answers_of}
+use Rattle.ob_shell.specs.Aloft.{EmitsUntil, FlewWhole, RanTogether, WantsTogether, answers_of}
 use Rattle.ob_shell.specs.Tallies.{tally_after, tally_seen, tally_with}
-use Rattle.ob_gen.specs.declared.tally.Tally.{Tally}
-use Rattle.ob_sql.specs.declared.stmt.Stmt.{Stmt}
 use Rattle.ob_store.proofs.Steps.{since_later}
-use Rattle.ob_store.specs.State.{StoreState}
-use Rattle.ob_tables.specs.Agreeing.{public_of}
-use Rattle.ob_tables.specs.declared.engine.Engine.{Engine}
-use Rattle.ob_tables.specs.declared.stop.RunStop.{RunStop}
 use Rattle.ob_tables.specs.declared.stop.RunStop.TheVariants as Runs
 use Rattle.ob_turns.proofs.Closings.{closes_sent}
 use Rattle.ob_turns.specs.Kept.{IsKept, closed_text, outcomes_of}
-use Rattle.ob_vault.specs.State.{RevState}
-use Rattle.ob_verdict.specs.declared.outcome.Outcome.{Outcome}
 
 -- ---- their answers
 -- what is printed of those that have ended

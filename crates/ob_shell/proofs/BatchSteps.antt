@@ -1,38 +1,16 @@
 -- A batch that was carried out, text by text.
-use Rattle.std.specs.Prelude.{◌&&◌, IsSome, bytes_eq, if◌then◌else◌, is_some, map, nat_lt, ⊤}
-use Rattle.std.specs.Option.{option_map, option_map_or}
-use Rattle.std.proofs.Common.{◌≡◌, ◌⊎◌, inl, inr, ◌+◌, ◌^◌, ◌≤◌, ◌<◌, ℕ, Bool, true, false, List, [], ◌∷◌, ◌++◌, length, Option, Some, None, Ok, Err, refl, sym, ◌∙◌, ap, subst, arith, ◌-◌}
+use Rattle.ob_shell.proofs.Words.{Access, access_public, AfterCount, Agrees, All, All-head, All-tail, AllInsert, ap, AreBatch, AreDraws, AreSpelt, arith, at_rest, batch_most, begins, begins_batch, Bool, by_fault, bytes_eq-Decides, closing_line, count_of, Cut, Does, Draws, early_refusal, End, end_cut, Engine, Err, false, Flights, Gathered, gathered_then, Heading, headings, headings_of, held_headings, if◌then◌else◌, inl, inr, inserts_into, is_cut, is_fault, is_index, is_joined, is_late, is_some, Joined, KeeperState, length, limits_of, List, Machine, machine_of, map, may_fly, most_flown, nat_lt, nat_tests, next, None, Ok, one_more, Option, option_map, option_map_or, Outcome, place_now, Public, public_of, RanBatch, refl, refusal_now, RefusedEarly, RevState, RunStop, script, Seen, seen_of, settle_all, Skeleton, skeleton, Some, SpellFirst, Spells, standing, statements_of, Static, Step, Steps, Stmt, StoreState, subst, sym, Tables, true, Whole, ℕ, [], ⊤, ◌&&◌, ◌++◌, ◌+◌, ◌-◌, ◌<◌, ◌^◌, ◌∙◌, ◌∷◌, ◌≡◌, ◌≤◌, ◌⊎◌}
+use Rattle.std.specs.Prelude.{IsSome, bytes_eq}
 use Rattle.std.proofs.lemmas.Bool.{false_from_ne_true}
-use Rattle.std.proofs.lemmas.Bool.Decides.{nat_tests}
-use Rattle.std.proofs.lemmas.List.Elements.{All-head, All-tail}
-use Rattle.std.proofs.lemmas.Slice.Eq.{bytes_eq-Decides}
-use Rattle.std.specs.List.{All}
-use Rattle.ob_base.specs.Stored.{headings, headings_of}
-use Rattle.ob_base.specs.declared.access.Access.{Access}
-use Rattle.ob_base.specs.declared.config.Public.{Public}
-use Rattle.ob_base.specs.declared.schema.Heading.{Heading}
-use Rattle.ob_base.specs.declared.seen.End.{End}
-use Rattle.ob_base.specs.declared.seen.End.TheVariants.{Static, Whole, AfterCount, Joined, Cut}
-use Rattle.ob_base.specs.declared.seen.Seen.{Seen}
-use Rattle.ob_base.specs.declared.skeleton.Skeleton.{Skeleton}
 use Rattle.ob_base.specs.declared.skeleton.Skeleton.TheVariants as K
 use Rattle.ob_exec.specs.Ran.{CarriedOut, KeeperBehind, WantsMemory}
-use Rattle.ob_exec.specs.RanBatch.{RanBatch}
-use Rattle.ob_headline.specs.Batches.{AllInsert}
-use Rattle.ob_headline.specs.Closing.{closing_line}
-use Rattle.ob_headline.specs.Statements.{SpellFirst, Spells}
-use Rattle.ob_mean.proofs.BatchLemmas.{Begins, Inserts, begins, settle_all_like, soon, verdicts_like}
-use Rattle.ob_headline.specs.Flights.{gathered_then, may_fly, most_flown, place_now}
-use Rattle.ob_mean.specs.Batches.{and_one, batch_most, begins_batch, begun_by, gathering_after, goes_into, inserts_into, is_cut, is_joined, settle_all, verdicts}
+use Rattle.ob_mean.proofs.BatchLemmas.{Begins, Inserts, settle_all_like, soon, verdicts_like}
+use Rattle.ob_mean.specs.Batches.{and_one, begun_by, gathering_after, goes_into, verdicts}
 use Rattle.ob_mean.specs.Replay.{draws_taken, is_access}
-use Rattle.ob_mean.specs.Refusals.{early_refusal, is_index, limits_of}
 use Rattle.ob_mean.specs.Settle.{settle}
 use Rattle.ob_mean.specs.Lawful.{EndsUncounted, Holds}
-use Rattle.ob_mean.specs.Verdict.{Accessed, Draws, Tables, accessed, is_late}
-use Rattle.ob_reopen.specs.Keepers.{KeeperState}
-use Rattle.ob_script.specs.Script.{script}
+use Rattle.ob_mean.specs.Verdict.{Accessed, accessed}
 use Rattle.ob_script.specs.Tables.{tables_then}
-use Rattle.ob_script.specs.Trace.{next}
 use Rattle.ob_shell.proofs.FewLemmas.{insert_few}
 use Rattle.ob_shell.proofs.ReplayLemmas.{counts_on}
 use Rattle.ob_shell.proofs.LeaveSteps.{whole_own}
@@ -40,28 +18,15 @@ use Rattle.ob_shell.proofs.EndLemmas.{end_apart}
 use Rattle.ob_shell.proofs.WithLemmas.{events_none, insert_headings, insert_of, insert_prints}
 use Rattle.ob_shell.specs.Lines.{line_answer, line_answers}
 use Rattle.ob_shell.proofs.GatherLemmas.{not_flying}
-use Rattle.ob_shell.specs.Steps.{AreOwed, AreSpelt, Does, Flights, Follow, Gathered, GoTogether, IsApartFrom, Machine, Owed, Owes, Step, Steps, TakesOwed, at_rest, draws_behind, end_with, gathered_after, machine_of, none_gathered, one_more, standing, statements_of}
+use Rattle.ob_shell.specs.Steps.{AreOwed, Follow, GoTogether, IsApartFrom, Owed, Owes, TakesOwed, draws_behind, end_with, gathered_after, none_gathered}
 use Rattle.ob_shell.specs.Waiting.{IsApart}
-use Rattle.ob_sql.specs.Skeleton.{skeleton}
-use Rattle.ob_sql.specs.declared.stmt.Stmt.{Stmt}
-use Rattle.ob_store.specs.State.{StoreState}
 use Rattle.ob_tables.proofs.BatchAlike.{served_alike}
-use Rattle.ob_tables.proofs.HeldLemmas.{held_headings}
 use Rattle.ob_tables.proofs.ServeLemmas.{silent_emits}
-use Rattle.ob_tables.specs.Agreeing.{Agrees, AreDraws, count_of, public_of, seen_of}
-use Rattle.ob_tables.specs.Batch.{AreBatch, AreServedWith, IsServedWith, outcomes_behind, outcomes_of}
-use Rattle.ob_tables.specs.Running.{RefusedEarly, is_fault}
+use Rattle.ob_tables.specs.Batch.{AreServedWith, IsServedWith, outcomes_behind, outcomes_of}
 use Rattle.ob_tables.specs.Serving.{Means}
 use Rattle.ob_tables.specs.Telling.{Kept, Meant, ReadsTrue}
-use Rattle.ob_tables.specs.declared.engine.Engine.{Engine}
-use Rattle.ob_tables.specs.declared.stop.RunStop.{RunStop}
-use Rattle.ob_vault.specs.State.{RevState}
-use Rattle.ob_verdict.proofs.AccessedProof.{access_public}
 use Rattle.ob_verdict.proofs.MovingProof.{moves}
-use Rattle.ob_verdict.specs.Outcomes.{by_fault, refusal_now}
-use Rattle.ob_verdict.specs.declared.outcome.Outcome.{Outcome}
 use Rattle.ob_verdict.specs.declared.outcome.Outcome.TheVariants.{Inserted}
-use Rattle.ob_tables.proofs.CutLemmas.{end_cut}
 
 -- ---- what is owed
 -- each with its outcome, unless the store failed the first

@@ -1,23 +1,10 @@
 -- The first changed block that is read ends the run, or its tag fits.
-use Rattle.std.proofs.Common.{◌≡◌, ℕ, Bool, List, [], ◌∷◌, None, Ok, Err, Result, ◌⊎◌, inl, inr, sym, subst}
-use Rattle.ob_base.specs.declared.refusal.Stop.{Stop}
+use Rattle.ob_shell.proofs.Words.{Answer, at_rest, Bool, Engine, Err, inl, inr, LastPart, List, Machine, more_together, None, Ok, one_more, PartlyAt, Public, public_of, Result, RevState, RunStop, session_stop, Skeleton, skeleton, Step, Steps, Stop, StoreState, subst, sym, World, world_of, ℕ, [], ◌∷◌, ◌≡◌, ◌⊎◌}
 use Rattle.ob_base.specs.declared.refusal.Stop.TheVariants.{Tampered}
-use Rattle.ob_base.specs.declared.config.Public.{Public}
-use Rattle.ob_base.specs.declared.skeleton.Skeleton.{Skeleton}
 use Rattle.ob_exec.specs.Ran.{ServedCause}
 use Rattle.ob_exec.specs.RanFlight.{FlightCause}
-use Rattle.ob_tables.specs.Agreeing.{public_of, world_of}
-use Rattle.ob_tables.specs.Stops.{session_stop}
-use Rattle.ob_tables.specs.declared.engine.Engine.{Engine}
-use Rattle.ob_tables.specs.declared.stop.RunStop.{RunStop}
 use Rattle.ob_tables.specs.declared.stop.RunStop.TheVariants as Runs
-use Rattle.ob_headline.specs.Words.{Answer}
 use Rattle.ob_shell.proofs.StepLemmas.{by_last}
-use Rattle.ob_shell.specs.Running.{LastPart}
-use Rattle.ob_shell.specs.Steps.{Machine, PartlyAt, Step, Steps, at_rest, more_together, one_more}
-use Rattle.ob_sql.specs.Skeleton.{skeleton}
-use Rattle.ob_store.specs.State.{StoreState}
-use Rattle.ob_vault.specs.State.{RevState, World}
 use Rattle.ob_vault.specs.Tied.{Calm, EndsAt}
 
 -- no changed block was read, or the first that was fits; or the session ended as tampered where it was read

@@ -1,31 +1,13 @@
 -- What a run promises once its last line was written.
-use Rattle.std.specs.Prelude.{⊤, ◌≢◌, drop}
-use Rattle.std.proofs.Common.{◌≡◌, ◌⊎◌, ℕ, Bool, true, false, List, [], ◌++◌, length, Option, Ok, Err, refl, sym, inl, subst, arith}
-use Rattle.ob_headline.specs.declared.flight.FlightSettings.{FlightSettings}
-use Rattle.ob_base.specs.Counts.{Rises}
-use Rattle.ob_base.specs.declared.config.Config.{Config}
-use Rattle.ob_base.specs.declared.refusal.Stop.TheVariants.{Tampered, SourceFault, SinkFault, NoMemory, InputLimit, StoreFault, StashFull, KeeperFault}
-use Rattle.ob_gen.specs.declared.tally.Tally.{Tally}
-use Rattle.ob_headline.specs.Bases.{Base, FromEach, flying, fresh}
-use Rattle.ob_headline.specs.Endings.{status_of, last_line}
+use Rattle.ob_shell.proofs.Words.{arith, Base, Bool, Config, drop, Ending, Err, false, Faults, FlightSettings, flying, fresh, FromEach, inl, IsFresh, IsHonest, KeySet, last_line, length, limit_of, LineWritten, List, LosesSome, Option, OutFailed, Outputs, printed, Ran, refl, refused_by, Report, Rises, ServesAlone, SinksRose, status_of, StoreState, subst, sym, Tally, Took, true, Unwritten, Usage, WordsErr, ℕ, [], ⊤, ◌++◌, ◌≡◌, ◌≢◌, ◌⊎◌}
+use Rattle.ob_base.specs.declared.refusal.Stop.TheVariants.{NoMemory}
 use Rattle.ob_headline.specs.Flights.{GoesOn, seats_of}
-use Rattle.ob_headline.specs.Settings.{limit_of}
-use Rattle.ob_headline.specs.Words.{Faults, IsHonest, SinksRose, Took, printed}
 use Rattle.ob_headline.specs.Status.{IsCompleted, KeepsLimits, StoreFails}
-use Rattle.ob_headline.specs.declared.ending.Ending.{Ending}
-use Rattle.ob_headline.specs.declared.ending.Ending.TheVariants.{Usage, BadKey, Ran}
-use Rattle.ob_headline.specs.declared.ending.Report.{Report}
-use Rattle.ob_print.specs.Cuts.{Outputs}
 use Rattle.ob_shell.proofs.CompleteLemmas.{reported_line, reported_quiet}
 use Rattle.ob_shell.proofs.TopLemmas.{shown_unread}
-use Rattle.ob_shell.specs.Closed.{Unwritten, LineWritten, refused_by}
-use Rattle.ob_shell.specs.Running.{OutFailed, ServesAlone}
-use Rattle.ob_shell.specs.Top.{EndingCause, EndingWords, IsFresh, LosesSome, Reported, RunShown, TraceSink, StatusCause}
+use Rattle.ob_shell.specs.Top.{EndingCause, EndingWords, Reported, RunShown, TraceSink, StatusCause}
 use Rattle.ob_shell.specs.declared.top.Ended.{Ended}
-use Rattle.ob_words.specs.declared.words.WordsErr.{WordsErr}
 use Rattle.ob_words.specs.declared.words.WordsErr.TheVariants as Words
-use Rattle.ob_store.specs.State.{StoreState}
-use Rattle.ob_seal.specs.KeySet.{KeySet}
 
 module _ {tally : Tally} {tr : TraceSink} {Takes : Type 0} {base : Base} {keys : List ℕ → KeySet} {gave : ℕ} {l0 l1 w0 w1 w2 : Option (List ℕ)} {s0 s1 : StoreState} where
   -- the last line was written, or might not be

@@ -1,31 +1,16 @@
 -- An input that keeps to the limits is served to its end.
-use Rattle.ob_shell.specs.Running.{ServesAlone}
-use Rattle.std.proofs.Common.{◌≡◌, ℕ, ◌≤◌, Bool, true, false, List, [], ◌++◌, length, Option, Some, None, Ok, Err, refl, ap, ◌∙◌, subst, inl, inr, arith, append-nil, length-append}
-use Rattle.std.proofs.KnownBytes.{Appends-nil}
+use Rattle.ob_shell.proofs.Words.{ap, append-nil, Appends-nil, arith, BadKey, Base, Bool, Ending, EndsUntampered, Err, false, Faults, FromEach, inl, inr, IsHonest, KeySet, last_line, length, length-append, limit_of, List, None, Ok, Option, Outputs, Outputs-by, Outputs-fault, printed, Ran, refl, Report, Rises, ServesAlone, SinksRose, Some, status_of, StoreState, subst, Tally, true, Usage, ℕ, [], ◌++◌, ◌∙◌, ◌≡◌, ◌≤◌}
 use Rattle.std.specs.Io.KnownBytes.{Consumes}
-use Rattle.ob_base.specs.Counts.{Rises}
 use Rattle.ob_base.specs.declared.refusal.Stop.TheVariants.{Tampered, SourceFault, SinkFault, NoMemory, InputLimit, StoreFault, StashFull, KeeperFault}
-use Rattle.ob_gen.specs.declared.tally.Tally.{Tally}
 use Rattle.ob_headline.proofs.BaseLemmas.{from_each}
 use Rattle.ob_headline.proofs.TextLemmas.{rest_of-append, rest_of-over, rest_of-nil}
-use Rattle.ob_headline.specs.Bases.{Base, FromEach}
-use Rattle.ob_headline.specs.Endings.{status_of, last_line}
 use Rattle.ob_headline.specs.KeyLine.{line_max, has_lf, first_line, after_line, secret_of, LineTaken}
-use Rattle.ob_headline.specs.Settings.{limit_of}
 use Rattle.ob_headline.specs.Texts.{is_over, rest_of}
-use Rattle.ob_headline.specs.Words.{Faults, SinksRose, IsHonest, printed}
 use Rattle.ob_headline.specs.Status.{HasSecret, KeepsLimits, IsCompleted, StoreFails}
-use Rattle.ob_headline.specs.declared.ending.Ending.{Ending}
-use Rattle.ob_headline.specs.declared.ending.Ending.TheVariants.{Usage, BadKey, Ran}
-use Rattle.ob_headline.specs.declared.ending.Report.{Report}
-use Rattle.ob_print.proofs.CutLemmas.{Outputs-by, Outputs-fault}
-use Rattle.ob_print.specs.Cuts.{Outputs}
 use Rattle.ob_shell.proofs.KeyLemmas.{after_line-none, first_line-long, secret_of-long}
 use Rattle.ob_shell.proofs.TookLemmas.{took_more, took_of, took_or}
 use Rattle.ob_shell.proofs.TopLemmas.{first_line-more, after_line-more, loses_as, shown_line, cut_line, quiet_line, line_rose, status_cause}
-use Rattle.ob_shell.specs.Top.{TraceSink, EndsUntampered, EndingSays, EndingWords, EndingCause, RunShown, StatusCause, Reported}
-use Rattle.ob_store.specs.State.{StoreState}
-use Rattle.ob_seal.specs.KeySet.{KeySet}
+use Rattle.ob_shell.specs.Top.{TraceSink, EndingSays, EndingWords, EndingCause, RunShown, StatusCause, Reported}
 
 no_secret : (xs : List ℕ) → HasSecret xs → secret_of (first_line xs) ≡ None → ⊥
 no_secret xs h e = let k = rw e at h in cc

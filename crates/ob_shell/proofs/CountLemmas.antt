@@ -1,14 +1,7 @@
 -- Counts that rise, one after the other.
-use Rattle.std.proofs.Common.{◌≡◌, ℕ, ◌≤◌, Bool, true, false, Err, inl, inr, arith, subst}
-use Rattle.ob_gen.specs.declared.tally.Tally.{Tally}
-use Rattle.ob_base.specs.Counts.{Rises}
-use Rattle.ob_base.specs.declared.refusal.Stop.{Stop}
+use Rattle.ob_shell.proofs.Words.{arith, Bool, Err, false, Faults, faults_of, inl, inr, Rises, RunStop, session_stop, Silenced, SinksRose, Stop, StopCause, subst, Tally, true, ℕ, ◌≡◌, ◌≤◌}
 use Rattle.ob_base.specs.declared.refusal.Stop.TheVariants.{Tampered, SourceFault, SinkFault, NoMemory, InputLimit, StoreFault, StashFull, KeeperFault}
-use Rattle.ob_tables.specs.Stops.{session_stop}
-use Rattle.ob_tables.specs.declared.stop.RunStop.{RunStop}
 use Rattle.ob_tables.specs.declared.stop.RunStop.TheVariants as Runs
-use Rattle.ob_headline.specs.Words.{Faults, SinksRose, faults_of}
-use Rattle.ob_shell.specs.Running.{Silenced, StopCause}
 
 pub rises_later : (a b c : ℕ) → Rises a b → b ≤ c → Rises a c
 rises_later a b c h l = omega arith

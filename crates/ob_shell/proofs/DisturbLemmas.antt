@@ -1,33 +1,12 @@
 -- Before others disturb a store, what is asked and answered is what is meant.
-use Rattle.std.specs.Prelude.{drop, nat_le, nat_lt}
-use Rattle.std.proofs.Common.{◌≡◌, ◌≤◌, ◌<◌, ◌+◌, ◌⊎◌, inl, inr, ℕ, Bool, true, false, IsTrue, List, [], ◌∷◌, ◌++◌, length, take, Option, Some, None, Ok, Err, Result, refl, sym, ◌∙◌, ap, subst, arith, append_assoc}
-use Rattle.std.proofs.lemmas.Bool.Decides.{nat_tests}
-use Rattle.std.proofs.lemmas.List.{length-append, take-append-drop, take-append-le}
+use Rattle.ob_shell.proofs.Words.{Access, ap, append_assoc, AreDraws, arith, Begins, Bool, Disturbance, Does, Draws, drop, Err, false, held_headings, inl, inr, IsBefore, IsSteady, IsTrue, length, length-append, Lie, List, Machine, met_script, nat_le, nat_lt, nat_tests, None, Option, Outcome, Public, public_of, Read, refl, Represents, Result, RevState, RunStop, script, seen_of, session_of, Skeleton, skeleton, Some, Stmt, subst, sym, Tables, take, take-append-drop, take-append-le, true, World, world_of, ℕ, [], ◌++◌, ◌+◌, ◌<◌, ◌∙◌, ◌∷◌, ◌≡◌, ◌≤◌, ◌⊎◌}
 use Rattle.std.specs.List.{list_all}
-use Rattle.ob_base.specs.declared.access.Access.{Access}
-use Rattle.ob_base.specs.declared.access.Access.TheVariants.{Read}
-use Rattle.ob_tables.proofs.HeldLemmas.{held_headings}
-use Rattle.ob_tables.specs.Agreeing.{AreDraws, public_of, seen_of, world_of}
-use Rattle.ob_base.specs.declared.config.Public.{Public}
-use Rattle.ob_base.specs.declared.skeleton.Skeleton.{Skeleton}
 use Rattle.ob_exec.specs.Ran.{ServedCause}
-use Rattle.ob_tables.specs.Telling.{Represents}
-use Rattle.ob_verdict.specs.declared.outcome.Outcome.{Outcome}
-use Rattle.ob_tables.specs.declared.stop.RunStop.{RunStop}
-use Rattle.ob_tables.specs.declared.stop.RunStop.TheVariants.{Tampered, SinkFault, NoMemory, StoreFault, StashFull, KeeperFault}
-use Rattle.ob_headline.proofs.FullLemmas.{met_reads, met_script}
-use Rattle.ob_headline.specs.Words.{Begins}
-use Rattle.ob_mean.specs.Verdict.{Draws, Tables}
-use Rattle.ob_script.specs.Script.{script}
+use Rattle.ob_tables.specs.declared.stop.RunStop.TheVariants.{Tampered}
+use Rattle.ob_headline.proofs.FullLemmas.{met_reads}
 use Rattle.ob_shell.proofs.CalmLemmas.{first_calm}
 use Rattle.ob_shell.proofs.FirstPartLemmas.{begins_length, begins_met}
 use Rattle.ob_shell.proofs.ShareLemmas.{share_reads}
-use Rattle.ob_shell.specs.Steps.{Does, Machine, session_of}
-use Rattle.ob_sql.specs.Skeleton.{skeleton}
-use Rattle.ob_sql.specs.declared.stmt.Stmt.{Stmt}
-use Rattle.ob_store.specs.Calls.{IsBefore, IsSteady}
-use Rattle.ob_store.specs.State.{Disturbance, Lie}
-use Rattle.ob_vault.specs.State.{RevState, World}
 use Rattle.ob_vault.specs.Tied.{Calm, EndsAt, ReadsIn}
 
 -- ---- fewer accesses come before as well

@@ -1,26 +1,14 @@
 -- What holds of statements that fly before others disturb the store.
-use Rattle.std.specs.Prelude.{◌&&◌, drop, if◌then◌else◌, map, take, ⊤}
-use Rattle.std.specs.List.{All}
-use Rattle.std.proofs.Common.{◌≡◌, ◌+◌, ◌≤◌, ◌++◌, inl, inr, ℕ, Bool, false, IsTrue, List, [], ◌∷◌, length, Option, Some, None, Ok, Result, refl, sym, ◌∙◌, ap, subst, arith, append_assoc, append-nil, length-append, take-append-drop}
-use Rattle.std.proofs.lemmas.List.{take-append-le}
-use Rattle.std.proofs.lemmas.List.Elements.{All-cons, All-head, All-nil, All-tail}
-use Rattle.ob_base.specs.declared.access.Access.{Access}
-use Rattle.ob_base.specs.declared.config.Public.{Public}
-use Rattle.ob_base.specs.declared.seen.Seen.{Seen}
-use Rattle.ob_exec.proofs.FlightLists.{served_long}
-use Rattle.ob_exec.specs.InFlight.{served_as}
+use Rattle.ob_shell.proofs.Words.{Access, after, All, All-cons, All-head, All-nil, All-tail, Answer, ap, append-nil, append_assoc, AreDraws, arith, asked_of, Begins, Bool, Disturbance, Draws, drop, Ending, false, Gathered, Gathering, How, if◌then◌else◌, inl, inr, is_full_now, IsBefore, IsSteady, IsTrue, length, length-append, List, Machine, map, MayFly, None, Ok, Option, Public, public_of, RanAloft, refl, Result, RevState, RunStop, Seat, Seen, seen_or_cut, served_as, served_long, Session, session_of, skeleton, Some, Spelt, StepTogether, Stmt, subst, sym, Tables, take, take-append-drop, take-append-le, turns_of, ℕ, [], ⊤, ◌&&◌, ◌++◌, ◌+◌, ◌∙◌, ◌∷◌, ◌≡◌, ◌≤◌}
 use Rattle.ob_headline.proofs.FlightSeats.{FlownUntil, seats_get, until_by}
 use Rattle.ob_headline.specs.Batches.{after_now, gathered_now}
 use Rattle.ob_headline.specs.Disturbed.{MeantUntil, behind_flown, flown_meant}
-use Rattle.ob_headline.specs.Flights.{Seat, asked_until, at_seat, seats_aloft}
+use Rattle.ob_headline.specs.Flights.{asked_until, at_seat, seats_aloft}
 use Rattle.ob_headline.specs.Meaning.{AnswersMeant}
-use Rattle.ob_headline.specs.Words.{Answer, Begins}
-use Rattle.ob_headline.specs.declared.ending.Ending.{Ending}
 use Rattle.ob_inflight.specs.Closing.{Closed}
-use Rattle.ob_mean.specs.Batches.{Gathering, is_unrefused}
-use Rattle.ob_mean.specs.Replay.{Alone, How, Session, Spelt, With, after, how_now, is_full_now, seen_or_cut}
-use Rattle.ob_mean.specs.Verdict.{Draws, Tables}
-use Rattle.ob_script.specs.Flights.{boarding, flight_accesses, merge, next_flight, turns_of, words_from}
+use Rattle.ob_mean.specs.Batches.{is_unrefused}
+use Rattle.ob_mean.specs.Replay.{Alone, With, how_now}
+use Rattle.ob_script.specs.Flights.{boarding, flight_accesses, merge, next_flight, words_from}
 use Rattle.ob_script.specs.Trace.{Served as Entry}
 use Rattle.ob_shell.proofs.CalmLemmas.{first_calm}
 use Rattle.ob_shell.proofs.DisturbLemmas.{before_less, few_or_more}
@@ -40,15 +28,8 @@ use Rattle.ob_shell.proofs.SelectLemmas.{flown_apart, flown_gathers}
 use Rattle.ob_shell.proofs.WalkEntries.{most_at, seats_at, trace_at}
 use Rattle.ob_shell.proofs.WalkLemmas.{EarlyAt, EarlyFrom, Walked}
 use Rattle.ob_shell.proofs.WalkWhole.{FliesEarly}
-use Rattle.ob_shell.specs.Aloft.{RanAloft}
-use Rattle.ob_shell.specs.Steps.{Gathered, Holds, Machine, MayFly, StepTogether, asked_of, has_failed, session_of}
-use Rattle.ob_sql.specs.Skeleton.{skeleton}
-use Rattle.ob_sql.specs.declared.stmt.Stmt.{Stmt}
-use Rattle.ob_store.specs.Calls.{IsBefore, IsQuiet, IsSteady}
-use Rattle.ob_store.specs.State.{Disturbance}
-use Rattle.ob_tables.specs.Agreeing.{AreDraws, public_of}
-use Rattle.ob_tables.specs.declared.stop.RunStop.{RunStop}
-use Rattle.ob_vault.specs.State.{RevState}
+use Rattle.ob_shell.specs.Steps.{Holds, has_failed}
+use Rattle.ob_store.specs.Calls.{IsQuiet}
 
 -- ---- what is meant of those that were answered
 module _ (n : ℕ) (s : Session) where

@@ -1,32 +1,14 @@
 -- How the answer of a statement ends it, and what it says of it.
-use Rattle.std.specs.Prelude.{◌↔◌, ◌&&◌}
-use Rattle.std.proofs.Common.{◌≡◌, ℕ, IsTrue, Bool, Ok, Err, Result, List, [], ◌++◌, Option, Some, None, refl, sym, ◌∙◌, ap, subst, true, false}
-use Rattle.ob_base.specs.Counts.{Rises}
-use Rattle.ob_base.specs.Events.{Event}
-use Rattle.ob_base.specs.Refusals.{is_store_fault}
-use Rattle.ob_base.specs.declared.config.Public.{Public}
-use Rattle.ob_base.specs.declared.refusal.Refusal.{Refusal}
+use Rattle.ob_shell.proofs.Words.{Answer, answer_labels, ap, Bool, by_fault, closing_line, End, end_cut, Event, events_text, false, Gathering, is_cut, is_fault, is_joined, is_store_fault, IsTrue, List, None, Ok, Option, Outcome, Public, refl, Refusal, Refused, RefusedEarly, Result, Rises, RunStop, Seen, skeleton, Some, Stmt, subst, sym, true, World, ℕ, [], ◌&&◌, ◌++◌, ◌∙◌, ◌≡◌}
+use Rattle.std.specs.Prelude.{◌↔◌}
 use Rattle.ob_base.specs.declared.refusal.Refusal.TheVariants.{StoreFault}
-use Rattle.ob_base.specs.declared.seen.End.{End}
-use Rattle.ob_base.specs.declared.seen.Seen.{Seen}
 use Rattle.ob_tables.specs.Refusals.{refused_end}
-use Rattle.ob_tables.specs.Running.{RefusedEarly, RunCause, is_fault, outcome_end, result_end}
-use Rattle.ob_verdict.specs.Outcomes.{by_fault, Emits}
-use Rattle.ob_tables.specs.Telling.{answer_labels}
-use Rattle.ob_verdict.specs.declared.outcome.Outcome.{Outcome}
-use Rattle.ob_verdict.specs.declared.outcome.Outcome.TheVariants.{Created, Inserted, Changed, Deleted, Dropped, Rows, Refused}
-use Rattle.ob_tables.specs.declared.stop.RunStop.{RunStop}
-use Rattle.ob_headline.specs.Closing.{closing_line}
+use Rattle.ob_tables.specs.Running.{RunCause, outcome_end, result_end}
+use Rattle.ob_verdict.specs.Outcomes.{Emits}
 use Rattle.ob_headline.specs.Batches.{Joins, is_failed}
-use Rattle.ob_headline.specs.Words.{Answer}
 use Rattle.ob_headline.specs.Accesses.{Says}
-use Rattle.ob_mean.specs.Batches.{Gathering, goes_into, is_cut, is_joined, is_unrefused}
-use Rattle.ob_print.specs.Rows.{events_text}
+use Rattle.ob_mean.specs.Batches.{goes_into, is_unrefused}
 use Rattle.ob_shell.proofs.ReplayLemmas.{fault_is}
-use Rattle.ob_sql.specs.Skeleton.{skeleton}
-use Rattle.ob_sql.specs.declared.stmt.Stmt.{Stmt}
-use Rattle.ob_vault.specs.State.{World}
-use Rattle.ob_tables.proofs.CutLemmas.{end_cut}
 
 -- whatever is gathered
 refused_failed : (g : Option Gathering) (r : Refusal) (n : ℕ) → is_failed g (refused_end r n) ≡ is_store_fault r

@@ -1,8 +1,5 @@
 -- One that had ended when its flight had asked so many accesses had ended within them.
-use Rattle.std.specs.Prelude.{slice_get}
-use Rattle.std.specs.Option.{option_map_or}
-use Rattle.std.proofs.Common.{◌≡◌, ◌≤◌, ℕ, zero, suc, Bool, true, false, List, length, Option, Some, None, refl, arith}
-use Rattle.ob_base.specs.declared.config.Public.{Public}
+use Rattle.ob_shell.proofs.Words.{arith, Bool, false, length, List, None, Option, option_map_or, Public, refl, slice_get, Some, suc, true, zero, ℕ, ◌≡◌, ◌≤◌}
 use Rattle.ob_exec.specs.RanFlight.{EndedWithin}
 use Rattle.ob_headline.proofs.UntilLemmas.{by_then}
 use Rattle.ob_headline.specs.Flights.{asked_until, has_ended}

@@ -1,58 +1,28 @@
 -- The engine of a run whose tables are kept, and what a failed trace leaves.
-use Rattle.std.specs.Prelude.{IsErr, ◌==◌, drop, take}
-use Rattle.std.proofs.Common.{◌≡◌, ◌<◌, ◌≤◌, ◌+◌, ◌++◌, ◌^◌, ℕ, Bool, true, false, List, [], ◌∷◌, length, Option, Some, None, Result, Ok, Err, inl, inr, refl, sym, ◌∙◌, ap, subst, arith, append-nil, length-append}
-use Rattle.std.proofs.lemmas.Bool.Decides.{nat_tests}
-use Rattle.std.specs.Result.{is_err}
+use Rattle.ob_shell.proofs.Words.{Access, Agrees, ap, append-nil, AreDraws, arith, Bool, CloseErr, Closing, Config, count_of, drop, earlier, Engine, engine_keys, engine_start, Err, false, first_draws, first_public, fresh, has_refused, HasCause, headings_of, held_headings, high_of, indexes_of, inl, inr, is_err, IsFresh, IsReady, IsSteady, KeeperState, KeptEnded, KeptEnding, keys_of, KeySet, length, length-append, List, machine_of, Mark, nat_tests, no_flights, None, Ok, opened_from, Option, Outputs, Plain, Public, public_of, Ran, refl, Result, RevState, Rises, rows_of, Some, Start, Stop, StoreState, subst, sym, take, Tally, told_nothing, traced, true, world_of, ℕ, [], ◌++◌, ◌+◌, ◌<◌, ◌^◌, ◌∙◌, ◌∷◌, ◌≡◌, ◌≤◌}
+use Rattle.std.specs.Prelude.{IsErr, ◌==◌}
 use Rattle.ob_base.specs.Accesses.{read_at}
-use Rattle.ob_base.specs.Counts.{Rises}
 use Rattle.ob_base.specs.Lists.{each}
-use Rattle.ob_base.specs.Publics.{first_public}
-use Rattle.ob_base.specs.Stored.{headings_of}
-use Rattle.ob_base.specs.declared.access.Access.{Access}
-use Rattle.ob_base.specs.declared.config.Config.{Config}
-use Rattle.ob_base.specs.declared.config.Public.{Public}
-use Rattle.ob_reopen.specs.declared.mark.Mark.{Mark}
-use Rattle.ob_base.specs.declared.refusal.Stop.{Stop}
-use Rattle.ob_tables.proofs.HeldLemmas.{held_headings}
-use Rattle.ob_tables.specs.Agreeing.{Agrees, AreDraws, count_of, engine_keys, engine_start, first_draws, has_ended, high_of, indexes_of, opened_from, public_of, replaced_of, rows_of, world_of}
+use Rattle.ob_tables.specs.Agreeing.{has_ended, replaced_of}
 use Rattle.ob_tables.specs.Closing.{ClosesEngine, closing_script, next_closing}
 use Rattle.ob_reopen.specs.Closed.{is_used_up}
 use Rattle.ob_tables.specs.Reopening.{IsOpened, OpensEngine}
 use Rattle.ob_reopen.specs.Reopened.{NotOpened, opened_start, opening_script}
 use Rattle.ob_reopen.specs.Resting.{Rests}
-use Rattle.ob_tables.specs.declared.engine.Engine.{Engine}
-use Rattle.ob_gen.specs.declared.tally.Tally.{Tally}
 use Rattle.ob_headline.proofs.FlatLemmas.{opened_flat}
-use Rattle.ob_headline.specs.Bases.{Opened, fresh, reopened}
+use Rattle.ob_headline.specs.Bases.{Opened, reopened}
 use Rattle.ob_headline.specs.Keeping.{EndsWith, NotReopened, OpensClosing, opening_end}
-use Rattle.ob_headline.specs.Tracing.{traced}
-use Rattle.ob_headline.specs.declared.ending.Ending.TheVariants.{Ran}
-use Rattle.ob_headline.specs.declared.ending.KeptEnding.{KeptEnding}
-use Rattle.ob_headline.specs.declared.ending.KeptEnding.TheVariants.{Plain}
-use Rattle.ob_io.specs.Causes.{HasCause}
-use Rattle.ob_print.specs.Cuts.{Outputs}
 use Rattle.ob_reopen.specs.Closings.{open_script, read_script}
-use Rattle.ob_reopen.specs.Keepers.{KeeperState}
 use Rattle.ob_reopen.specs.Limits.{IsMarked}
-use Rattle.ob_reopen.specs.declared.closing.Closing.{Closing}
-use Rattle.ob_reopen.specs.declared.fault.CloseErr.{CloseErr}
 use Rattle.ob_reopen.specs.declared.fault.OpenErr.{OpenErr}
 use Rattle.ob_reopen.specs.declared.listed.Listed.{Listed}
-use Rattle.ob_seal.specs.KeySet.{KeySet}
-use Rattle.ob_seal.specs.Sealed.{keys_of}
 use Rattle.ob_shell.proofs.StandLemmas.{none_asked, stands_first}
 use Rattle.ob_shell.proofs.TraceLemmas.{since, until}
 use Rattle.ob_shell.specs.Engaging.{ClosesRun, Engages, IsHushed}
 use Rattle.ob_shell.specs.Standing.{StandsOn}
-use Rattle.ob_shell.specs.Steps.{IsReady, machine_of, no_flights, told_nothing}
-use Rattle.ob_shell.specs.Tallies.{has_refused}
-use Rattle.ob_shell.specs.Top.{IsFresh}
-use Rattle.ob_shell.specs.declared.keeping.KeptEnded.{KeptEnded}
 use Rattle.ob_store.proofs.Steps.{length-each}
-use Rattle.ob_store.specs.Calls.{IsSteady}
-use Rattle.ob_store.specs.State.{StoreState}
 use Rattle.ob_vault.specs.Resuming.{open_at}
-use Rattle.ob_vault.specs.State.{RevState, Start, earlier, from_nothing}
+use Rattle.ob_vault.specs.State.{from_nothing}
 use Rattle.ob_vault.specs.Tied.{TagFits}
 
 -- ---- a call that failed, and what it says of the count

@@ -1,31 +1,13 @@
 -- At least as many calls of the store failed as statements were cut off, and as texts were answered so one by one.
-use Rattle.std.specs.Prelude.{if◌then◌else◌, is_some, take}
-use Rattle.std.specs.Option.{option_map}
-use Rattle.std.proofs.Common.{◌≡◌, ◌≤◌, ◌+◌, ◌++◌, ℕ, Bool, true, false, List, [], ◌∷◌, length, Option, None, Some, Ok, Err, refl, sym, ap, subst, arith}
-use Rattle.ob_base.specs.Counts.{Rises}
-use Rattle.ob_base.specs.Refusals.{is_store_fault}
-use Rattle.ob_base.specs.declared.config.Public.{Public}
-use Rattle.ob_base.specs.declared.refusal.Refusal.{Refusal}
+use Rattle.ob_shell.proofs.Words.{Answer, ap, arith, begins_batch, Bool, by_fault, Cut, cut_off, End, Err, false, Gathering, if◌then◌else◌, inserts_into, is_cut, is_fault, is_some, is_store_fault, Joined, length, List, None, Ok, Option, option_map, Outcome, Public, refl, Refusal, Refused, Rises, RisesBy, Seat, Seen, skeleton, Some, Spelt, statements, Stmt, subst, sym, take, true, ℕ, [], ◌++◌, ◌+◌, ◌∷◌, ◌≡◌, ◌≤◌}
 use Rattle.ob_base.specs.declared.refusal.Refusal.TheVariants.{StoreFault}
-use Rattle.ob_base.specs.declared.seen.End.{End}
-use Rattle.ob_base.specs.declared.seen.End.TheVariants.{Joined, Cut}
-use Rattle.ob_base.specs.declared.seen.Seen.{Seen}
 use Rattle.ob_headline.specs.Accesses.{AreSeen, cut_aloft}
-use Rattle.ob_headline.specs.Flights.{Seat, Stand}
+use Rattle.ob_headline.specs.Flights.{Stand}
 use Rattle.ob_headline.specs.Batches.{is_failed}
-use Rattle.ob_headline.specs.Failures.{FailsBeside, RisesBy, cut_off, failures, outcome_failures, refusal_failures}
-use Rattle.ob_headline.specs.Statements.{statements}
-use Rattle.ob_headline.specs.Words.{Answer}
-use Rattle.ob_mean.specs.Batches.{Gathering, and_one, begins_batch, begun_by, gathering_after, goes_into, inserts_into, is_cut}
-use Rattle.ob_mean.specs.Replay.{Spelt}
+use Rattle.ob_headline.specs.Failures.{FailsBeside, failures, outcome_failures, refusal_failures}
+use Rattle.ob_mean.specs.Batches.{and_one, begun_by, gathering_after, goes_into}
 use Rattle.ob_script.specs.Trace.{Served}
 use Rattle.ob_shell.specs.Steps.{has_failed}
-use Rattle.ob_sql.specs.Skeleton.{skeleton}
-use Rattle.ob_sql.specs.declared.stmt.Stmt.{Stmt}
-use Rattle.ob_tables.specs.Running.{is_fault}
-use Rattle.ob_verdict.specs.Outcomes.{by_fault}
-use Rattle.ob_verdict.specs.declared.outcome.Outcome.{Outcome}
-use Rattle.ob_verdict.specs.declared.outcome.Outcome.TheVariants.{Created, Inserted, Changed, Deleted, Dropped, Rows, Refused}
 
 stays : (a b : ℕ) → b ≡ a → RisesBy 0 a b
 stays a b same = omega (arith, same)

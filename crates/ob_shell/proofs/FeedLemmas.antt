@@ -1,8 +1,7 @@
 -- The bytes of a chunk, one at a time.
-use Rattle.std.proofs.Common.{◌≡◌, ℕ, ◌+◌, ◌-◌, ◌<◌, ◌≤◌, List, [], ◌∷◌, ◌++◌, length, take, drop, get_or, Option, refl, sym, ap, ◌∙◌, arith, suc, drop-cons, add-one, append_assoc, append-nil, length-append}
+use Rattle.ob_shell.proofs.Words.{ap, append-nil, append_assoc, arith, drop, Fed, Fetch, length, length-append, List, Option, refl, suc, sym, take, take-append-le, ℕ, [], ◌++◌, ◌+◌, ◌-◌, ◌<◌, ◌∙◌, ◌∷◌, ◌≡◌, ◌≤◌}
+use Rattle.std.proofs.Common.{get_or, drop-cons, add-one}
 use Rattle.std.proofs.KnownBytes.{Consumes-trans, Consumes-nil}
-use Rattle.ob_shell.specs.Feeding.{Fetch, Fed}
-use Rattle.std.proofs.lemmas.List.{take-append-le}
 
 pub held_byte : (chunk : List ℕ) (from to : ℕ) → from ≤ to → (from ≡ to → ⊥) → to ≤ length chunk
     → take (to - from) (drop from chunk) ++ [] ≡ get_or chunk from 0 ∷ take (to - (from + 1)) (drop (from + 1) chunk)

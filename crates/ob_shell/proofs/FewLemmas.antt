@@ -1,61 +1,39 @@
 -- Fewer accesses are asked than there are numbers.
-use Rattle.std.specs.Prelude.{All, IfSome, IsSome, bytes_eq, if◌then◌else◌, option_map, slice_get, ⊤}
-use Rattle.std.proofs.Common.{◌≡◌, ◌⊎◌, ◌≤◌, ◌<◌, ◌+◌, ◌*◌, ◌/◌, ◌^◌, ℕ, zero, suc, Bool, true, false, List, [], ◌∷◌, ◌++◌, length, Option, None, Some, Ok, Result, inl, inr, refl, sym, ◌∙◌, ap, subst, arith, get_or}
-use Rattle.std.proofs.lemmas.Bool.Decides.{nat_tests}
+use Rattle.ob_shell.proofs.Words.{Access, Agrees, All, Answer, ap, arith, asked_of, at_rest, Bool, count_of, Does, earlier, early_refusal, Engine, false, Fetch, FlightSettings, Heading, headings_of, if◌then◌else◌, inl, inr, inserts_into, is_late, IsFlown, length, limits_of, List, Machine, more_together, most_flown, nat_tests, None, Ok, one_more, Option, option_map, option_map_or, Outcome, Plan, Public, public_of, refl, Refusal, refusal_now, RefusedEarly, Result, RevState, RunStop, script, Seen, seen_of, served_as, served_long, SessionRan, Skeleton, skeleton, slice_get, Some, Start, Step, Steps, StepTogether, Stmt, StoreState, subst, suc, sym, Table, Tally, true, whole_script, world_of, zero, ℕ, [], ⊤, ◌++◌, ◌+◌, ◌<◌, ◌^◌, ◌∙◌, ◌∷◌, ◌≡◌, ◌≤◌, ◌⊎◌}
+use Rattle.std.specs.Prelude.{IfSome, IsSome, bytes_eq}
+use Rattle.std.proofs.Common.{◌*◌, ◌/◌, get_or}
 use Rattle.std.proofs.lemmas.Option.{slice_get-get_or}
-use Rattle.std.specs.Option.{option_map_or}
 use Rattle.ob_base.proofs.AccessLemmas.{makes_few}
 use Rattle.ob_base.specs.Accesses.{discard_at}
 use Rattle.ob_base.specs.Indexes.{by_shape, height_of}
 use Rattle.ob_base.specs.Joins.{joined_slots}
 use Rattle.ob_base.specs.Limits.{buffered_blocks}
-use Rattle.ob_base.specs.Plans.{choose_padded, padded_rows}
+use Rattle.ob_base.specs.Plans.{choose_padded, padded_rows, IsPadded}
 use Rattle.ob_base.specs.Schemas.{width}
-use Rattle.ob_base.specs.Stored.{Stored, heading_at, headings_of, stored_at, stored_regions}
-use Rattle.ob_base.specs.declared.config.Plan.{Plan}
+use Rattle.ob_base.specs.Stored.{Stored, heading_at, stored_at, stored_regions}
 use Rattle.ob_base.specs.declared.config.Plan.TheVariants.{Small, Large, Continuous, Hash}
-use Rattle.ob_base.specs.declared.config.Public.{Public}
-use Rattle.ob_base.specs.declared.refusal.Refusal.{Refusal}
-use Rattle.ob_base.specs.declared.access.Access.{Access}
-use Rattle.ob_base.specs.declared.schema.Heading.{Heading}
 use Rattle.ob_base.specs.declared.schema.Shape.{Shape}
 use Rattle.ob_base.specs.declared.schema.Shape.TheVariants.{Flat, Indexed}
-use Rattle.ob_base.specs.declared.schema.Table.{Table}
-use Rattle.ob_base.specs.declared.seen.Seen.{Seen}
-use Rattle.ob_base.specs.declared.skeleton.Skeleton.{Skeleton}
 use Rattle.ob_base.specs.declared.skeleton.Skeleton.TheVariants as K
 use Rattle.ob_base.specs.declared.skeleton.Source.{Source}
 use Rattle.ob_base.specs.declared.skeleton.Source.TheVariants.{Table as OneTable, Join}
-use Rattle.ob_exec.proofs.FlightLists.{served_long}
 use Rattle.ob_tables.proofs.TableLemmas.{region_below, tables_flat}
-use Rattle.ob_tables.specs.Agreeing.{Agrees, count_of, public_of, seen_of, world_of}
-use Rattle.ob_tables.specs.Running.{RefusedEarly}
-use Rattle.ob_verdict.specs.Outcomes.{refusal_now}
-use Rattle.ob_tables.specs.declared.engine.Engine.{Engine}
-use Rattle.ob_verdict.specs.declared.outcome.Outcome.{Outcome}
-use Rattle.ob_tables.specs.declared.stop.RunStop.{RunStop}
-use Rattle.ob_gen.specs.declared.tally.Tally.{Tally}
 use Rattle.ob_headline.proofs.FlatLemmas.{IsFlat}
-use Rattle.ob_headline.specs.Words.{Answer}
 use Rattle.ob_mean.proofs.EarlyLemmas.{allowed, within}
 use Rattle.ob_mean.proofs.FlatLemmas.{MakesFlat, flat_whole, headings-regions, makes_flat, region_flat, script_is}
 use Rattle.ob_mean.proofs.VerdictLemmas.{heading-stored}
 use Rattle.ob_mean.specs.Lawful.{Holds, IsCount, counted_slots, statement_slots}
-use Rattle.ob_mean.specs.Refusals.{early_refusal, is_indexed, limits_of}
-use Rattle.ob_mean.specs.Verdict.{is_late}
+use Rattle.ob_mean.specs.Refusals.{is_indexed}
 use Rattle.ob_reopen.specs.Limits.{IsStored}
 use Rattle.ob_script.proofs.Few.{script_few}
 use Rattle.ob_script.specs.Parts.{count_part, insert_part, join_part}
-use Rattle.ob_script.specs.Script.{after_count, behind_change, behind_count, blocks_of, extent_of, joined_extent, mutation_script, result_part, rows_width, script, shape_script, until_end, whole_script, with_table}
+use Rattle.ob_script.specs.Script.{after_count, behind_change, behind_count, blocks_of, extent_of, joined_extent, mutation_script, result_part, rows_width, shape_script, until_end, with_table}
 use Rattle.ob_script.specs.Sizes.{SeesLeaf, IfFlat, IfTable, IsCounted, IsHeld, IsPublic, IsSourceCounted, IsTable, IsWithin}
 use Rattle.std.proofs.Math.Nat.{div-le_self}
 use Rattle.std.proofs.lemmas.Nat.{div-add-mod', le-div}
-use Rattle.ob_base.specs.Plans.{IsPadded}
 use Rattle.ob_base.specs.declared.config.Planner.{Planner}
 use Rattle.ob_base.specs.declared.config.Planner.TheVariants.{Forced}
-use Rattle.ob_exec.specs.InFlight.{EndsAs, IsFlown, served_as}
-use Rattle.ob_headline.specs.Flights.{most_flown}
-use Rattle.ob_headline.specs.declared.flight.FlightSettings.{FlightSettings}
+use Rattle.ob_exec.specs.InFlight.{EndsAs}
 use Rattle.ob_inflight.specs.Closing.{Closed}
 use Rattle.ob_script.proofs.FlightEnds.{ends_whole}
 use Rattle.ob_script.specs.FlightLaws.{accesses_for}
@@ -63,17 +41,9 @@ use Rattle.ob_script.specs.Flights.{flight_public, merge}
 use Rattle.ob_shell.proofs.AloftLemmas.{within_get}
 use Rattle.ob_shell.proofs.FlightSteady.{steady_flown}
 use Rattle.ob_shell.proofs.ReplayLemmas.{counts_on}
-use Rattle.ob_shell.specs.Feeding.{Fetch}
-use Rattle.ob_shell.specs.Running.{SessionRan}
-use Rattle.ob_shell.specs.Steps.{Does, Machine, Step, StepTogether, Steps, asked_of, at_rest, more_together, one_more}
-use Rattle.ob_sql.specs.Skeleton.{skeleton}
 use Rattle.ob_sql.specs.declared.stmt.SelectRows.{SelectRows}
-use Rattle.ob_sql.specs.declared.stmt.Stmt.{Stmt}
 use Rattle.ob_sql.specs.declared.stmt.Stmt.TheVariants.{Create, Insert, Update, Delete, Drop as DropTable, SelectRows as RowsStmt, SelectTotals as TotalsStmt}
-use Rattle.ob_store.specs.State.{StoreState}
 use Rattle.ob_vault.specs.Places.{start_of}
-use Rattle.ob_vault.specs.State.{RevState, Start, earlier}
-use Rattle.ob_mean.specs.Batches.{inserts_into}
 use Rattle.ob_mean.specs.Replay.{is_access}
 use Rattle.ob_verdict.proofs.LawfulProof.{region_index}
 use Rattle.ob_verdict.proofs.AcceptedProof.{joins_fit}

@@ -1,34 +1,16 @@
 -- What a statement asks is a first part of what its meaning asks.
-use Rattle.std.proofs.Common.{◌≡◌, ◌≤◌, ℕ, Bool, true, false, cond, List, [], ◌∷◌, length, Option, Some, None, Ok, Err, Result, refl, sym, ap, subst, arith, append-nil}
-use Rattle.std.proofs.lemmas.List.{length-append}
-use Rattle.ob_base.specs.Stored.{headings}
-use Rattle.ob_base.specs.declared.access.Access.{Access}
-use Rattle.ob_base.specs.declared.config.Plan.{Plan}
-use Rattle.ob_base.specs.declared.config.Plan.TheVariants.{Small, Large, Continuous, Hash}
-use Rattle.ob_base.specs.declared.config.Public.{Public}
-use Rattle.ob_base.specs.declared.seen.End.{End}
-use Rattle.ob_base.specs.declared.seen.End.TheVariants.{Static, Whole, AfterCount, Joined, Cut}
-use Rattle.ob_base.specs.declared.seen.Seen.{Seen}
-use Rattle.ob_tables.proofs.HeldLemmas.{held_headings}
-use Rattle.ob_tables.specs.Agreeing.{AreDraws, public_of, seen_of}
-use Rattle.ob_tables.specs.Running.{is_fault}
-use Rattle.ob_tables.specs.Telling.{ReadsTrue, ReadsTrueUntil, Told, is_refused}
-use Rattle.ob_verdict.specs.declared.outcome.Outcome.{Outcome}
-use Rattle.ob_tables.specs.declared.stop.RunStop.{RunStop}
+use Rattle.ob_shell.proofs.Words.{Access, AfterCount, ap, append-nil, AreDraws, arith, asked_of, Begins, Bool, Does, Draws, early_refusal, End, Err, false, headings, held_headings, is_fault, is_full_now, is_late, length, length-append, limits_of, List, Machine, met_script, None, Ok, Option, Outcome, Plan, Public, public_of, ReadsTrueUntil, refl, Result, RevState, RunStop, script, Seen, seen_of, session_of, skeleton, Some, statements_of, Stmt, subst, sym, Tables, true, Whole, whole_script, ℕ, [], ◌∷◌, ◌≡◌, ◌≤◌}
+use Rattle.std.proofs.Common.{cond}
+use Rattle.ob_base.specs.declared.config.Plan.TheVariants.{Continuous}
+use Rattle.ob_tables.specs.Telling.{ReadsTrue, Told, is_refused}
 use Rattle.ob_headline.proofs.CutLemmas.{cut_begins}
-use Rattle.ob_headline.proofs.FullLemmas.{met_begins, met_script}
-use Rattle.ob_headline.specs.Words.{Begins}
+use Rattle.ob_headline.proofs.FullLemmas.{met_begins}
 use Rattle.ob_mean.proofs.VerdictLemmas.{seen_late}
-use Rattle.ob_mean.specs.Refusals.{early_refusal, limits_of}
-use Rattle.ob_mean.specs.Replay.{cut_at, is_full_now, reads_of}
-use Rattle.ob_mean.specs.Verdict.{Accessed, Draws, Tables, accessed, counted, is_late, seen, seen_by, seen_served, seen_started, seen_with}
-use Rattle.ob_script.specs.Script.{script, until_end, whole_script}
+use Rattle.ob_mean.specs.Replay.{cut_at, reads_of}
+use Rattle.ob_mean.specs.Verdict.{Accessed, accessed, counted, seen, seen_by, seen_served, seen_started, seen_with}
+use Rattle.ob_script.specs.Script.{until_end}
 use Rattle.ob_shell.proofs.ReplayLemmas.{cut_early}
-use Rattle.ob_shell.specs.Steps.{Does, Machine, asked_of, session_of, statements_of}
-use Rattle.ob_sql.specs.Skeleton.{skeleton}
-use Rattle.ob_sql.specs.declared.stmt.Stmt.{Stmt}
-use Rattle.ob_sql.specs.declared.stmt.Stmt.TheVariants.{Create, Insert, Update, Delete, Drop as DropTable, SelectRows as RowsStmt, SelectTotals as TotalsStmt}
-use Rattle.ob_vault.specs.State.{RevState}
+use Rattle.ob_sql.specs.declared.stmt.Stmt.TheVariants.{SelectRows as RowsStmt}
 
 pub begins_length : (part whole : List Access) → Begins part whole → length part ≤ length whole
 begins_length part whole b = omega (arith, ap length b.joined, length-append part b.rest)

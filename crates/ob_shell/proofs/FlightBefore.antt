@@ -1,30 +1,18 @@
 -- What flies before others disturb the store: the first of what it asks is meant, and each that had ended by then is as it is meant.
-use Rattle.std.specs.Prelude.{◌-◌, drop, map, slice_get, take}
-use Rattle.std.specs.List.{All}
-use Rattle.std.specs.Option.{option_map_or}
-use Rattle.std.proofs.Common.{◌≡◌, ◌+◌, ◌≤◌, ◌<◌, ◌++◌, inl, inr, ℕ, zero, suc, Bool, true, false, IsTrue, List, [], ◌∷◌, length, Option, Some, None, Ok, Err, Result, refl, sym, ◌∙◌, ap, subst, arith, append_assoc, length-append, take-append-drop}
-use Rattle.std.proofs.lemmas.Bool.{cases_lt}
-use Rattle.std.proofs.lemmas.List.{length-map, length-take, take-take, take_all}
+use Rattle.ob_shell.proofs.Words.{Access, All, answer_labels, ap, append_assoc, arith, asked_of, Begins, Bool, cases_lt, Disturbance, Draws, drop, Err, false, headings, headings_of, inl, inr, IsBefore, IsSteady, IsTrue, length, length-append, length-map, List, Machine, map, MayFly, None, Ok, Option, option_map_or, outcome_of, Public, public_of, RanAloft, refl, Represents, Result, RevState, RunStop, Seen, served_as, served_long, Session, session_of, skeleton, slice_get, Some, Stmt, subst, suc, sym, Tables, take, take-append-drop, true, turns_of, zero, ℕ, [], ◌++◌, ◌+◌, ◌-◌, ◌<◌, ◌∙◌, ◌∷◌, ◌≡◌, ◌≤◌}
+use Rattle.std.proofs.lemmas.List.{length-take, take-take, take_all}
 use Rattle.std.proofs.lemmas.Option.{slice_get_within}
-use Rattle.ob_base.specs.Stored.{headings, headings_of}
-use Rattle.ob_base.specs.declared.access.Access.{Access}
-use Rattle.ob_base.specs.declared.config.Public.{Public}
-use Rattle.ob_base.specs.declared.seen.Seen.{Seen}
-use Rattle.ob_exec.proofs.FlightLists.{served_long}
-use Rattle.ob_exec.specs.InFlight.{served_as}
 use Rattle.ob_exec.specs.RanFlight.{EndedWithin, asked_since, in_flight, meant_of, stopped_after}
 use Rattle.ob_headline.proofs.UntilLemmas.{until_not}
 use Rattle.ob_headline.specs.Disturbed.{flown_meant}
 use Rattle.ob_headline.specs.Flights.{asked_until, has_ended}
-use Rattle.ob_headline.specs.Words.{Begins}
 use Rattle.ob_inflight.specs.Closing.{Closed}
 use Rattle.ob_mean.specs.Prints.{Prints}
-use Rattle.ob_mean.specs.Replay.{Session}
-use Rattle.ob_mean.specs.Verdict.{Draws, Tables, seen as seen_by, verdict}
+use Rattle.ob_mean.specs.Verdict.{seen as seen_by, verdict}
 use Rattle.ob_script.proofs.FlightEnds.{all_ended, flying_long, turns_needed}
 use Rattle.ob_script.proofs.FlightTurns.{goes_or_rests}
 use Rattle.ob_script.proofs.ListPlaces.{get_none}
-use Rattle.ob_script.specs.Flights.{AreSteady, Flight, Flying, boarding, flight, flight_accesses, flight_public, merge, turns, turns_of}
+use Rattle.ob_script.specs.Flights.{AreSteady, Flight, Flying, boarding, flight, flight_accesses, flight_public, merge, turns}
 use Rattle.ob_script.specs.Trace.{Served}
 use Rattle.ob_shell.proofs.DisturbLemmas.{before_less}
 use Rattle.ob_shell.proofs.EndedUntil.{ended_at, ended_until}
@@ -33,17 +21,8 @@ use Rattle.ob_shell.proofs.FlightSteady.{steady_flown}
 use Rattle.ob_shell.proofs.FlightUntil.{AsMeant, as_meant}
 use Rattle.ob_shell.proofs.FlownLists.{Flown, each_flown}
 use Rattle.ob_shell.proofs.ReplayLemmas.{free_holds}
-use Rattle.ob_shell.specs.Aloft.{RanAloft, asked_own}
-use Rattle.ob_shell.specs.Steps.{Holds, Machine, MayFly, asked_of, session_of}
-use Rattle.ob_sql.specs.Skeleton.{skeleton}
-use Rattle.ob_sql.specs.declared.stmt.Stmt.{Stmt}
-use Rattle.ob_store.specs.Calls.{IsBefore, IsSteady}
-use Rattle.ob_store.specs.State.{Disturbance}
-use Rattle.ob_tables.specs.Agreeing.{public_of}
-use Rattle.ob_tables.specs.Telling.{Represents, answer_labels}
-use Rattle.ob_tables.specs.declared.stop.RunStop.{RunStop}
-use Rattle.ob_vault.specs.State.{RevState}
-use Rattle.ob_verdict.specs.Outcomes.{outcome_of}
+use Rattle.ob_shell.specs.Aloft.{asked_own}
+use Rattle.ob_shell.specs.Steps.{Holds}
 
 -- ---- first parts of lists
 take_past : {A : Type 0} (n : ℕ) (xs ys : List A) → length xs ≤ n → take n (xs ++ ys) ≡ xs ++ take (n - length xs) ys

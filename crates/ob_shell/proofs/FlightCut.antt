@@ -1,29 +1,17 @@
 -- Where a stop came within a flight.
-use Rattle.std.specs.Prelude.{drop, nat_lt, slice_get, take}
-use Rattle.std.specs.List.{All}
-use Rattle.std.specs.Option.{option_map_or}
-use Rattle.std.proofs.Common.{◌≡◌, ◌⊎◌, ◌+◌, ◌≤◌, ◌<◌, ◌++◌, inl, inr, ℕ, zero, suc, Bool, true, false, List, [], ◌∷◌, length, Option, Some, None, Err, refl, sym, ◌∙◌, ap, subst, arith, append_assoc, append-nil, length-append, take-append-drop}
-use Rattle.std.proofs.lemmas.List.{append_cancel_left}
-use Rattle.ob_base.specs.declared.config.Public.{Public}
-use Rattle.ob_base.specs.declared.seen.Seen.{Seen}
-use Rattle.ob_exec.specs.InFlight.{served_as}
+use Rattle.ob_shell.proofs.Words.{All, Answer, answer_labels, answer_of, ap, append-nil, append_assoc, append_cancel_left, arith, asked_of, Bool, cases_lt, CutTogether, done_of, Draws, drop, Emitted, Err, false, inl, inr, is_tampered, length, length-append, List, LosesSome, Machine, nat_lt, None, Option, option_map_or, Outputs, printed, PrintsUntil, Public, public_of, Ran, RanAloft, ReadsTrueUntil, refl, RevState, RunStop, Seat, Seen, served_as, Session, session_of, session_stop, slice_get, Some, Spelt, statements, Stmt, subst, suc, sym, Tables, take, take-append-drop, Took, true, turns_of, World, zero, ℕ, [], ◌++◌, ◌+◌, ◌<◌, ◌∙◌, ◌∷◌, ◌≡◌, ◌≤◌, ◌⊎◌}
+use Rattle.ob_exec.specs.InFlight.{EndsAs, EndsMeant}
 use Rattle.ob_exec.specs.RanFlight.{FlightCause, StopsInTurn}
 use Rattle.ob_headline.proofs.FlightLeft.{ended_left}
 use Rattle.ob_headline.proofs.TakenLemmas.{LosesSo}
 use Rattle.ob_headline.proofs.UntilLemmas.{until_ended, until_not}
 use Rattle.ob_headline.specs.Accesses.{LeavesAloft, ends_within}
-use Rattle.ob_headline.specs.Endings.{is_tampered}
-use Rattle.ob_headline.specs.Flights.{EndedBy, GoesOn, Seat, asked_until, has_ended, seats_aloft}
-use Rattle.ob_headline.specs.Meaning.{PrintsUntil}
-use Rattle.ob_headline.specs.Statements.{statements}
-use Rattle.ob_headline.specs.Words.{Answer, Took, printed}
-use Rattle.ob_headline.specs.declared.ending.Ending.TheVariants.{Ran}
+use Rattle.ob_headline.specs.Flights.{EndedBy, GoesOn, asked_until, has_ended, seats_aloft, stand_at}
 use Rattle.ob_inflight.specs.Closing.{Closed}
-use Rattle.ob_mean.specs.Replay.{Session, done_of}
-use Rattle.ob_mean.specs.Verdict.{Draws, Tables}
-use Rattle.ob_print.specs.Cuts.{IsCutOf, Outputs}
+use Rattle.ob_mean.specs.Verdict.{verdict}
+use Rattle.ob_print.specs.Cuts.{IsCutOf}
 use Rattle.ob_script.proofs.FlightEnds.{all_ended, flying_long}
-use Rattle.ob_script.specs.Flights.{AreSteady, Flight, Flying, boarding, turns, turns_of}
+use Rattle.ob_script.specs.Flights.{AreSteady, Flight, Flying, boarding, turns, Entry as Turn, flight_public}
 use Rattle.ob_script.specs.Trace.{Served as Entry}
 use Rattle.ob_shell.proofs.FlightEnd.{all_fs, aloft, in_all, left_walked, long_aloft, seats_left, spelt_left, taken_long, turn_of}
 use Rattle.ob_shell.proofs.FlightFacts.{ByThen, EachBy, first_answered, get_less, past_none, places, seats_are}
@@ -32,29 +20,13 @@ use Rattle.ob_shell.proofs.FlightMeant.{BeginsSo, Means, meant_so}
 use Rattle.ob_shell.proofs.FlightSeen.{FirstAnswered, IsIn, Stood}
 use Rattle.ob_shell.proofs.FlightStop.{nth_answered, prints_whole, taken_on}
 use Rattle.ob_shell.proofs.FlownLists.{Flown, Places, flown_at, flown_list, seats_in}
-use Rattle.ob_shell.proofs.StopLemmas.{tampered_as}
+use Rattle.ob_shell.proofs.StopLemmas.{tampered_as, stop_untampered}
 use Rattle.ob_shell.proofs.WalkLemmas.{EarlyAt}
-use Rattle.ob_shell.specs.Aloft.{RanAloft, answer_of, answers_of}
-use Rattle.ob_shell.specs.Steps.{CutTogether, Machine, asked_of}
-use Rattle.ob_shell.specs.Top.{LosesSome}
-use Rattle.ob_sql.specs.declared.stmt.Stmt.{Stmt}
-use Rattle.ob_tables.specs.Agreeing.{public_of}
-use Rattle.ob_tables.specs.Stops.{session_stop}
-use Rattle.ob_tables.specs.Telling.{ReadsTrueUntil, is_refused}
-use Rattle.ob_tables.specs.declared.stop.RunStop.{RunStop}
+use Rattle.ob_shell.specs.Aloft.{answers_of}
+use Rattle.ob_tables.specs.Telling.{is_refused}
 use Rattle.ob_tables.specs.declared.stop.RunStop.TheVariants as Runs
-use Rattle.ob_vault.specs.State.{RevState, World}
-use Rattle.std.proofs.lemmas.Bool.{cases_lt}
-use Rattle.ob_exec.specs.InFlight.{EndsAs, EndsMeant}
-use Rattle.ob_headline.specs.Flights.{stand_at}
-use Rattle.ob_mean.specs.Replay.{Spelt}
-use Rattle.ob_mean.specs.Verdict.{verdict}
-use Rattle.ob_script.specs.Flights.{Entry as Turn, flight_public}
 use Rattle.ob_shell.proofs.ReplayLemmas.{free_holds}
-use Rattle.ob_shell.proofs.StopLemmas.{stop_untampered}
 use Rattle.ob_shell.proofs.WalkEntries.{seats_at}
-use Rattle.ob_shell.specs.Steps.{session_of}
-use Rattle.ob_tables.specs.Telling.{Emitted, answer_labels}
 use Rattle.ob_verdict.specs.Outcomes.{Emits, Partly}
 
 -- ---- what a sink took

@@ -1,25 +1,13 @@
 -- How many statements of a flight the store cut off.
-use Rattle.std.specs.Prelude.{◌||◌, if◌then◌else◌}
-use Rattle.std.specs.List.{All}
-use Rattle.std.proofs.Common.{◌≡◌, ◌+◌, ◌++◌, ℕ, Bool, true, false, List, [], ◌∷◌, length, refl, sym, ◌∙◌, ap, arith}
-use Rattle.std.proofs.lemmas.List.Elements.{All-head, All-tail}
-use Rattle.ob_base.specs.declared.seen.Seen.{Seen}
-use Rattle.ob_exec.specs.InFlight.{served_as}
+use Rattle.ob_shell.proofs.Words.{All, All-head, All-tail, Answer, ap, arith, Bool, cut_off, end_cut, false, if◌then◌else◌, is_cut, is_fault, length, List, Outcome, refl, Refused, Seen, served_as, Stmt, sym, true, ℕ, [], ◌++◌, ◌+◌, ◌||◌, ◌∙◌, ◌∷◌, ◌≡◌}
 use Rattle.ob_exec.specs.RanFlight.{cut_off as cut_among}
 use Rattle.ob_headline.specs.Accesses.{any_cut}
-use Rattle.ob_headline.specs.Failures.{cut_off, failures, outcome_failures}
-use Rattle.ob_headline.specs.Words.{Answer}
-use Rattle.ob_mean.specs.Batches.{is_cut}
+use Rattle.ob_headline.specs.Failures.{failures, outcome_failures}
 use Rattle.ob_script.specs.FlightLaws.{one_if, total}
 use Rattle.ob_script.specs.Trace.{Served}
 use Rattle.ob_shell.proofs.FlightSeen.{AllAnswered, Stood, flown_ends}
 use Rattle.ob_shell.proofs.FlownLists.{Flown, served_in_all}
 use Rattle.ob_shell.proofs.WalkLemmas.{or_first, or_rest}
-use Rattle.ob_sql.specs.declared.stmt.Stmt.{Stmt}
-use Rattle.ob_tables.specs.Running.{is_fault}
-use Rattle.ob_verdict.specs.declared.outcome.Outcome.{Outcome}
-use Rattle.ob_verdict.specs.declared.outcome.Outcome.TheVariants.{Created, Inserted, Changed, Deleted, Dropped, Rows, Refused}
-use Rattle.ob_tables.proofs.CutLemmas.{end_cut}
 
 one_of : (b : Bool) → one_if b ≡ (if b then 1 else 0)
 one_of true = refl

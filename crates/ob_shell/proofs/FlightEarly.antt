@@ -1,17 +1,13 @@
 -- Statements that fly before the first disturbance: each that had ended by then is answered and seen as it is meant.
-use Rattle.std.proofs.Common.{◌≡◌, ◌≤◌, ℕ, ◌∙◌, ap}
-use Rattle.ob_base.specs.Stored.{headings, headings_of}
+use Rattle.ob_shell.proofs.Words.{Answer, answer_labels, ap, headings, headings_of, outcome_of, Session, ℕ, ◌∙◌, ◌≡◌, ◌≤◌}
 use Rattle.ob_headline.proofs.FlightSeats.{FlownUntil}
 use Rattle.ob_headline.specs.Flights.{at_seat}
-use Rattle.ob_headline.specs.Words.{Answer}
 use Rattle.ob_mean.specs.Prints.{Prints}
-use Rattle.ob_mean.specs.Replay.{Alone, Session}
+use Rattle.ob_mean.specs.Replay.{Alone}
 use Rattle.ob_mean.specs.Verdict.{seen as seen_by, verdict}
 use Rattle.ob_shell.proofs.FlightSeen.{IsAnswerOf, Stood, flown_bytes}
 use Rattle.ob_shell.proofs.FlownLists.{Flown, served_of}
 use Rattle.ob_shell.proofs.SelectLemmas.{leaves_all, room_flown}
-use Rattle.ob_tables.specs.Telling.{answer_labels}
-use Rattle.ob_verdict.specs.Outcomes.{outcome_of}
 
 -- as it is meant, over the tables of a session
 pub record MeantBy (s : Session) (f : Flown) (one : Answer) (answer : IsAnswerOf f one) : Type 0 where

@@ -1,69 +1,30 @@
 -- A flight that was left, as the last of what was served.
-use Rattle.std.specs.Prelude.{◌&&◌, drop, if◌then◌else◌, map, nat_lt, slice_get, take}
-use Rattle.std.specs.List.{All}
-use Rattle.std.proofs.Common.{◌≡◌, ◌⊎◌, ◌+◌, ◌-◌, ◌≤◌, ◌<◌, ◌++◌, ℕ, zero, suc, Bool, true, false, IsTrue, List, [], ◌∷◌, length, Option, Some, None, Ok, Err, Result, refl, sym, ◌∙◌, ap, subst, arith, append_assoc, append-nil, length-append, take-append-drop}
-use Rattle.std.proofs.lemmas.List.{length-drop, length-map, length-take, take_all}
-use Rattle.std.proofs.lemmas.List.Elements.{All-cons, All-head, All-nil, All-tail}
-use Rattle.ob_base.specs.declared.access.Access.{Access}
-use Rattle.ob_base.specs.declared.config.Public.{Public}
-use Rattle.ob_base.specs.declared.seen.Seen.{Seen}
-use Rattle.ob_exec.proofs.LeavesRead.{Given}
-use Rattle.ob_exec.specs.InFlight.{served_as}
-use Rattle.ob_exec.specs.RanFlight.{asked_since, stopped_after}
-use Rattle.ob_headline.specs.Accesses.{AreSeen, LeavesAloft, any_cut}
-use Rattle.ob_headline.specs.Failures.{cut_off, failures}
-use Rattle.ob_headline.specs.Flights.{AreEntries, AreGathered, EndedBy, GoesOn, MayFly as FlyMay, Seat, after_entries, may_fly, place_now, seats_aloft, served_by, whole_of}
-use Rattle.ob_headline.specs.Statements.{SpellFirst, statements}
-use Rattle.ob_headline.specs.Words.{Answer}
-use Rattle.ob_headline.specs.declared.ending.Ending.{Ending}
+use Rattle.ob_shell.proofs.Words.{Access, AfterCount, All, All-cons, All-head, All-nil, All-tail, Answer, ap, append-nil, append_assoc, AreDraws, AreSpelt, arith, asked_of, Bool, Cut, cut_off, done_of, Draws, drop, End, Ending, EndsUntampered, Err, false, Gathering, Given, if◌then◌else◌, Index, indexes_of, is_tampered, IsFlown, IsTrue, Joined, length, length-append, length-map, List, Machine, map, may_fly, MayFly, nat_lt, None, Ok, Option, place_now, Public, public_of, Ran, RanAloft, ReadsTrueUntil, refl, Result, RevState, RunStop, Seat, Seen, SelectsFromOne, served_as, Session, session_of, session_stop, skeleton, slice_get, Some, SpellFirst, Spelt, StandsAs, statements, statements_of, Static, Stmt, subst, suc, sym, Tables, take, take-append-drop, true, Whole, zero, ℕ, [], ◌&&◌, ◌++◌, ◌+◌, ◌-◌, ◌<◌, ◌∙◌, ◌∷◌, ◌≡◌, ◌≤◌, ◌⊎◌}
+use Rattle.std.proofs.lemmas.List.{length-drop, length-take, take_all}
+use Rattle.ob_exec.specs.RanFlight.{asked_since, stopped_after, asked_by, carried_out}
+use Rattle.ob_headline.specs.Accesses.{AreSeen, LeavesAloft, any_cut, ends_within}
+use Rattle.ob_headline.specs.Failures.{failures}
+use Rattle.ob_headline.specs.Flights.{AreEntries, AreGathered, EndedBy, GoesOn, MayFly as FlyMay, after_entries, seats_aloft, served_by, whole_of}
 use Rattle.ob_inflight.specs.Closing.{Closed}
-use Rattle.ob_mean.specs.Batches.{Gathering}
-use Rattle.ob_mean.specs.Replay.{Session, Spelt}
-use Rattle.ob_mean.specs.Verdict.{Draws, Tables}
-use Rattle.ob_script.specs.FlightLaws.{SelectsFromOne}
 use Rattle.ob_script.specs.Flights.{Entry as Turn, Together, flight_accesses, merge, trace_in, own_asked}
 use Rattle.ob_script.specs.Trace.{Served as Entry}
 use Rattle.ob_shell.proofs.FailureLemmas.{cut_few}
-use Rattle.ob_shell.proofs.FlightFacts.{EachBy, all_get, all_in, all_means, all_places, all_stood, fs, in_at, seats_are, served_are, spell_flown, spelt_long, stmts_are}
-use Rattle.ob_shell.proofs.FlightSeen.{FirstAnswered, IsIn, PlacesFrom, Stood, gathers_flown, left_seen}
-use Rattle.ob_shell.proofs.FlownLists.{Flown, seats_in, served_in_all, served_of, stmts_in}
+use Rattle.ob_shell.proofs.FlightFacts.{EachBy, all_get, all_in, all_means, all_places, all_stood, fs, in_at, seats_are, served_are, spell_flown, spelt_long, stmts_are, places}
+use Rattle.ob_shell.proofs.FlightSeen.{FirstAnswered, IsIn, PlacesFrom, Stood, gathers_flown, left_seen, cut_more}
+use Rattle.ob_shell.proofs.FlownLists.{Flown, seats_in, served_in_all, served_of, stmts_in, each_flown}
 use Rattle.ob_shell.proofs.SeatLemmas.{seats_flown_last, trace_flown_last}
-use Rattle.ob_shell.proofs.SelectLemmas.{flown_selects}
+use Rattle.ob_shell.proofs.SelectLemmas.{flown_selects, flown_leaf}
 use Rattle.ob_shell.proofs.WalkEntries.{EntriesSo, left_are, most_at, seats_at, trace_at, whole_left}
 use Rattle.ob_shell.proofs.HowLemmas.{StartsApart}
-use Rattle.ob_shell.specs.Aloft.{RanAloft}
-use Rattle.ob_shell.specs.Steps.{AreSpelt, Machine, MayFly, asked_of}
-use Rattle.ob_sql.specs.Skeleton.{skeleton}
-use Rattle.ob_sql.specs.declared.stmt.Stmt.{Stmt}
-use Rattle.ob_tables.specs.Agreeing.{AreDraws, indexes_of, public_of}
-use Rattle.ob_tables.specs.declared.stop.RunStop.{RunStop}
-use Rattle.ob_vault.specs.State.{RevState}
-use Rattle.ob_exec.specs.InFlight.{IsFlown}
-use Rattle.ob_base.specs.declared.seen.End.{End}
-use Rattle.ob_base.specs.declared.seen.End.TheVariants.{Static, Whole, AfterCount, Joined, Cut}
-use Rattle.ob_exec.specs.RanFlight.{asked_by, carried_out}
-use Rattle.ob_headline.specs.Accesses.{ends_within}
+use Rattle.ob_shell.specs.Steps.{Holds, Owed}
 use Rattle.ob_headline.specs.Meaning.{AnswersFrom, done_in}
-use Rattle.ob_headline.specs.Endings.{is_tampered}
-use Rattle.ob_headline.specs.declared.ending.Ending.TheVariants.{Ran}
-use Rattle.ob_mean.specs.Replay.{done_of}
-use Rattle.ob_oram.specs.declared.index.Index.{Index}
 use Rattle.ob_shell.proofs.FlightCuts.{cut_same, failed_same, none_cut}
-use Rattle.ob_shell.proofs.FlightFacts.{places}
 use Rattle.ob_shell.proofs.FlightMeant.{BeginsSo, LeftMean, Means, StandsSo as FlownStandsSo, left_meant, meant_so, stands_so}
-use Rattle.ob_shell.proofs.FlightSeen.{cut_more}
-use Rattle.ob_shell.proofs.FlownLists.{each_flown}
 use Rattle.ob_shell.proofs.LeafLemmas.{Reads, reads_none, reads_unasked}
 use Rattle.ob_shell.proofs.FlightLeaves.{leaves_kept}
 use Rattle.ob_shell.proofs.LeavePath.{HaveFlown, Path, aloft_along, aloft_so}
 use Rattle.ob_shell.proofs.ReplayLemmas.{free_holds}
-use Rattle.ob_shell.proofs.SelectLemmas.{flown_leaf}
 use Rattle.ob_shell.proofs.WalkLemmas.{EarlyAt, Walked}
-use Rattle.ob_shell.specs.Steps.{Holds, Owed, session_of, statements_of}
-use Rattle.ob_shell.specs.Top.{EndsUntampered}
-use Rattle.ob_tables.specs.Stops.{session_stop}
-use Rattle.ob_tables.specs.Telling.{ReadsTrueUntil}
-use Rattle.ob_mean.specs.Standing.{StandsAs}
 
 -- as many statements as there are
 pub statements_taken : (stmts : List Stmt) (n : ℕ) → n ≤ length stmts → length (statements (take n (map Ok stmts))) ≡ n

@@ -1,13 +1,6 @@
 -- Where a flight was left.
-use Rattle.std.specs.Prelude.{drop, take}
-use Rattle.std.proofs.Common.{◌≡◌, ◌≤◌, ◌++◌, ℕ, true, List, [], ◌∷◌, length, Option, Ok, Err, refl}
-use Rattle.ob_base.specs.declared.access.Access.{Access}
+use Rattle.ob_shell.proofs.Words.{Access, Answer, CutTogether, drop, Err, FinishedTogether, length, List, Machine, Ok, Option, Outputs, printed, Ran, refl, RevState, RunStop, Seat, session_stop, statements, Stmt, take, Took, true, ℕ, [], ◌++◌, ◌∷◌, ◌≡◌, ◌≤◌}
 use Rattle.ob_headline.specs.Accesses.{LeavesAloft, ends_within}
-use Rattle.ob_headline.specs.Flights.{Seat}
-use Rattle.ob_headline.specs.Statements.{statements}
-use Rattle.ob_headline.specs.Words.{Answer, Took, printed}
-use Rattle.ob_headline.specs.declared.ending.Ending.TheVariants.{Ran}
-use Rattle.ob_print.specs.Cuts.{Outputs}
 use Rattle.ob_script.specs.Trace.{Served as Entry}
 use Rattle.ob_shell.proofs.FlightCut.{cut_last, never_within}
 use Rattle.ob_shell.proofs.FlightEnd.{aloft, all_fs, spelt_left, turn_of}
@@ -17,12 +10,7 @@ use Rattle.ob_shell.proofs.FlightSteady.{steady_flown}
 use Rattle.ob_shell.proofs.FlightStop.{finished_last, leaves_otherwise}
 use Rattle.ob_shell.proofs.WalkEntries.{seats_at}
 use Rattle.ob_shell.proofs.WalkLemmas.{EarlyAt}
-use Rattle.ob_shell.specs.Steps.{CutTogether, FinishedTogether, Machine}
-use Rattle.ob_sql.specs.declared.stmt.Stmt.{Stmt}
-use Rattle.ob_tables.specs.Stops.{session_stop}
-use Rattle.ob_tables.specs.declared.stop.RunStop.{RunStop}
 use Rattle.ob_tables.specs.declared.stop.RunStop.TheVariants as Runs
-use Rattle.ob_vault.specs.State.{RevState}
 
 -- it comes within none of them, and tells more only for want of memory
 unless_memory : (run : RunStop) (asked : List Access) (seats : List Seat) (stmts : List Stmt) (seen : List Entry) → (ends_within (Ran (Err (session_stop run))) ≡ true → ⊥) → (run ≡ Runs.NoMemory → LeavesAloft (Ran (Err (session_stop run))) asked seats stmts seen)

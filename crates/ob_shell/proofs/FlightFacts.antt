@@ -1,34 +1,16 @@
 -- What is known of each statement of a flight, from what the engine did.
-use Rattle.std.specs.Prelude.{drop, map, slice_get, take}
-use Rattle.std.specs.List.{All}
-use Rattle.std.proofs.Common.{◌≡◌, ◌+◌, ◌≤◌, ◌<◌, ◌++◌, ℕ, zero, suc, true, List, [], ◌∷◌, length, Option, Some, None, Ok, Result, refl, sym, ◌∙◌, ap, subst, arith}
-use Rattle.std.proofs.lemmas.List.Elements.{All-head, All-tail}
-use Rattle.ob_base.specs.Stored.{headings, headings_of}
-use Rattle.ob_base.specs.declared.config.Public.{Public}
-use Rattle.ob_base.specs.declared.seen.Seen.{Seen}
-use Rattle.ob_exec.proofs.FlightLists.{served_long}
-use Rattle.ob_exec.specs.InFlight.{IsFlown, IsMeant, served_as}
+use Rattle.ob_shell.proofs.Words.{All, All-head, All-tail, Answer, answer_of, ap, AreSpelt, arith, asked_of, Draws, drop, Emitted, headings, headings_of, IsFlown, length, List, Machine, map, may_fly, MayFly, None, Ok, Option, Public, public_of, RanAloft, ReadsTrueUntil, refl, Result, RevState, RunStop, Seen, served_as, served_long, Session, session_of, skeleton, slice_get, Some, SpellFirst, Spelt, statements, Stmt, subst, suc, sym, Tables, take, true, turns_of, zero, ℕ, [], ◌++◌, ◌+◌, ◌<◌, ◌∙◌, ◌∷◌, ◌≡◌, ◌≤◌}
+use Rattle.ob_exec.specs.InFlight.{IsMeant}
 use Rattle.ob_exec.specs.RanFlight.{asked_by, asked_since, carried_out}
-use Rattle.ob_headline.specs.Flights.{asked_until, may_fly, seat_aloft, seats_aloft, stand_at}
-use Rattle.ob_headline.specs.Statements.{SpellFirst, statements}
-use Rattle.ob_headline.specs.Words.{Answer}
+use Rattle.ob_headline.specs.Flights.{asked_until, seat_aloft, seats_aloft, stand_at}
 use Rattle.ob_inflight.specs.Closing.{Closed}
-use Rattle.ob_mean.specs.Replay.{Session, Spelt}
-use Rattle.ob_mean.specs.Verdict.{Draws, Tables}
-use Rattle.ob_script.specs.Flights.{boarding, flight_public, turns_of}
+use Rattle.ob_script.specs.Flights.{boarding, flight_public}
 use Rattle.ob_script.specs.Trace.{Served}
 use Rattle.ob_shell.proofs.FlightMeant.{AllMean, Means, meant_so}
 use Rattle.ob_shell.proofs.FlightSeen.{AllAnswered, FirstAnswered, GoesBy, IsIn, PlacesFrom, Stood, flown_places}
 use Rattle.ob_shell.proofs.FlownLists.{Flown, Places, each_flown, flown_at, flown_list, flown_seats, flown_served, flown_stmts, seats_in, served_in_all, stmts_in}
 use Rattle.ob_shell.proofs.HowLemmas.{may_by}
-use Rattle.ob_shell.specs.Aloft.{RanAloft, answer_of, answers_of, asked_own}
-use Rattle.ob_shell.specs.Steps.{AreSpelt, Machine, MayFly, asked_of, session_of}
-use Rattle.ob_sql.specs.Skeleton.{skeleton}
-use Rattle.ob_sql.specs.declared.stmt.Stmt.{Stmt}
-use Rattle.ob_tables.specs.Agreeing.{public_of}
-use Rattle.ob_tables.specs.Telling.{Emitted, ReadsTrueUntil}
-use Rattle.ob_tables.specs.declared.stop.RunStop.{RunStop}
-use Rattle.ob_vault.specs.State.{RevState}
+use Rattle.ob_shell.specs.Aloft.{answers_of, asked_own}
 
 -- ---- lists
 pub all_get : {A : Type 0} (P : A → Type 0) (xs : List A) → All P xs → (k : ℕ) (x : A) → slice_get xs k ≡ Some x → P x

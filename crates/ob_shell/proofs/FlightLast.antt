@@ -1,15 +1,6 @@
 -- The last part of a walk.
-use Rattle.std.proofs.Common.{◌≡◌, ◌⊎◌, ◌++◌, ℕ, List, [], Option, Err}
-use Rattle.ob_headline.specs.Words.{Answer, Took, printed}
-use Rattle.ob_headline.specs.declared.ending.Ending.{Ending}
-use Rattle.ob_print.specs.Cuts.{Outputs}
-use Rattle.ob_headline.specs.declared.ending.Ending.TheVariants.{Ran}
+use Rattle.ob_shell.proofs.Words.{Answer, Ending, Err, List, LosesSome, Machine, Option, Outputs, printed, Ran, RevState, RunStop, session_stop, Took, ℕ, [], ◌++◌, ◌≡◌, ◌⊎◌}
 use Rattle.ob_shell.proofs.WalkLemmas.{Walked}
-use Rattle.ob_shell.specs.Steps.{Machine}
-use Rattle.ob_shell.specs.Top.{LosesSome}
-use Rattle.ob_tables.specs.Stops.{session_stop}
-use Rattle.ob_tables.specs.declared.stop.RunStop.{RunStop}
-use Rattle.ob_vault.specs.State.{RevState}
 
 -- Behind these answers the first of the texts were answered, too, in a flight that was left there, and a sink took their
 -- answers; this was printed of the next one. Where no flight was left all is as it was.

@@ -1,12 +1,10 @@
 -- What a flight leaves of a session: its tables and its draws.
-use Rattle.std.specs.Prelude.{drop, map}
-use Rattle.std.proofs.Common.{◌≡◌, ◌++◌, ℕ, zero, suc, List, [], ◌∷◌, length, None, Ok, refl, sym, ◌∙◌, ap, subst, arith}
+use Rattle.ob_shell.proofs.Words.{after, Answer, ap, arith, drop, length, List, map, None, Ok, refl, Seat, Session, Spelt, subst, suc, sym, zero, ℕ, [], ◌++◌, ◌∙◌, ◌∷◌, ◌≡◌}
 use Rattle.ob_headline.proofs.EffectLemmas.{left_served}
-use Rattle.ob_headline.specs.Flights.{Seat, at_next, at_seat}
+use Rattle.ob_headline.specs.Flights.{at_next, at_seat}
 use Rattle.ob_headline.specs.Meaning.{session_after}
 use Rattle.ob_headline.specs.SavedHeadline.{left_by}
-use Rattle.ob_headline.specs.Words.{Answer}
-use Rattle.ob_mean.specs.Replay.{Broken, Session, Spelt, after, head_of, rest_of}
+use Rattle.ob_mean.specs.Replay.{Broken, head_of, rest_of}
 use Rattle.ob_shell.proofs.FlightMeant.{AreStill, IsStill, at_same}
 use Rattle.ob_shell.proofs.FlownLists.{Flown, seats_in, stmts_in}
 use Rattle.ob_shell.proofs.LeavePath.{GoesOn}

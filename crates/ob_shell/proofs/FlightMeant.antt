@@ -1,38 +1,17 @@
 -- What statements mean that fly: each over the tables before, which stay.
-use Rattle.std.specs.Prelude.{drop, if◌then◌else◌, map, ⊤}
-use Rattle.std.specs.List.{All}
-use Rattle.std.proofs.Common.{◌≡◌, ◌⊎◌, ◌≤◌, ◌++◌, inl, inr, ℕ, Bool, true, false, List, [], ◌∷◌, length, Option, Some, None, Ok, Err, Result, refl, sym, ◌∙◌, ap, subst, arith}
-use Rattle.std.proofs.lemmas.List.Elements.{All-head, All-tail}
-use Rattle.ob_base.specs.Stored.{headings, headings_of}
-use Rattle.ob_base.specs.declared.refusal.Refusal.{Refusal}
-use Rattle.ob_base.specs.declared.schema.Heading.{Heading}
-use Rattle.ob_base.specs.declared.seen.End.TheVariants.{Cut}
-use Rattle.ob_base.specs.declared.seen.Seen.{Seen}
+use Rattle.ob_shell.proofs.Words.{after, All, All-head, All-tail, Answer, answer_of, ap, arith, Bool, Cut, drop, early_refusal, Emitted, Ending, Err, false, Heading, headings, headings_of, How, if◌then◌else◌, inl, inr, is_fault, is_full_now, is_late, length, limits_of, List, map, may_fly, None, Ok, Option, Outcome, refl, Refusal, refusal_now, RefusedEarly, Result, RunStop, Seat, Seen, seen_or_cut, Session, skeleton, Some, Spelt, Stmt, subst, sym, Tables, true, whole_script, ℕ, [], ⊤, ◌++◌, ◌∙◌, ◌∷◌, ◌≡◌, ◌≤◌, ◌⊎◌}
 use Rattle.ob_exec.specs.InFlight.{EndsMeant, IsMeant}
 use Rattle.ob_headline.proofs.CutLemmas.{cut_shorter}
-use Rattle.ob_headline.specs.Flights.{Seat, Stand, at_next, at_seat, may_fly}
+use Rattle.ob_headline.specs.Flights.{Stand, at_next, at_seat}
 use Rattle.ob_headline.specs.Meaning.{AnswersFrom, AnswersIn, BeginsAnswer, BeginsAt, EmitsAll, EmitsPart, StandBehind, StandsIn, StandsThere, done_in, session_after}
-use Rattle.ob_headline.specs.Words.{Answer}
-use Rattle.ob_headline.specs.declared.ending.Ending.{Ending}
 use Rattle.ob_inflight.specs.Closing.{Closed}
 use Rattle.ob_mean.specs.Lawful.{CutUpTo}
-use Rattle.ob_mean.specs.Refusals.{early_refusal, limits_of}
-use Rattle.ob_mean.specs.Replay.{Alone, Broken, CutAfter, How, IsCutOff, Session, Spelt, after, cut_at, head_of, is_full_now, rest_of, seen_now, seen_or_cut}
-use Rattle.ob_mean.specs.Verdict.{Tables, is_late}
-use Rattle.ob_script.specs.Script.{whole_script}
+use Rattle.ob_mean.specs.Replay.{Alone, Broken, CutAfter, IsCutOff, cut_at, head_of, rest_of, seen_now}
 use Rattle.ob_script.specs.Trace.{Served}
 use Rattle.ob_shell.proofs.FlightSeen.{GoesBy, IsAnswerOf, IsIn, Stood, by_stand, flown_bytes, flown_early, flown_ended, flown_lawful}
 use Rattle.ob_shell.proofs.FlownLists.{Flown, seats_in, served_in_all, served_of, stmts_in}
 use Rattle.ob_shell.proofs.ReplayLemmas.{outcome_cases}
 use Rattle.ob_shell.proofs.SelectLemmas.{IsOwn, LeavesAll, leaves_all, room_flown, unkeyed_flown}
-use Rattle.ob_shell.specs.Aloft.{answer_of}
-use Rattle.ob_sql.specs.Skeleton.{skeleton}
-use Rattle.ob_sql.specs.declared.stmt.Stmt.{Stmt}
-use Rattle.ob_tables.specs.Running.{RefusedEarly, is_fault}
-use Rattle.ob_tables.specs.Telling.{Emitted}
-use Rattle.ob_tables.specs.declared.stop.RunStop.{RunStop}
-use Rattle.ob_verdict.specs.Outcomes.{refusal_now}
-use Rattle.ob_verdict.specs.declared.outcome.Outcome.{Outcome}
 use Rattle.ob_mean.specs.Standing.{StandsMeant}
 
 -- ---- a session of which the tables and the draws are another's

@@ -1,23 +1,12 @@
 -- One step more of a walk: texts that were answered together.
-use Rattle.std.specs.Prelude.{drop, map}
-use Rattle.std.proofs.Common.{◌≡◌, ◌⊎◌, ◌+◌, ◌<◌, ◌++◌, ℕ, Bool, false, IsTrue, List, ◌∷◌, length, Option, Some, None, Ok, refl, sym, ◌∙◌, ap, subst, arith, append_assoc, length-append}
-use Rattle.std.proofs.lemmas.List.{length-map}
-use Rattle.std.specs.List.{All}
+use Rattle.ob_shell.proofs.Words.{All, Answer, ap, append_assoc, AreDraws, arith, Bool, cut_off, Draws, drop, Ending, engine_start, false, Given, Index, indexes_of, IsTrue, KeySet, length, length-append, length-map, Lie, List, Machine, map, None, Ok, Option, Public, public_of, ReadsTrueUntil, refl, RevState, RisesBy, Seat, served_as, session_of, Some, SpellFirst, Spelt, Start, statements, statements_of, StepTogether, Stmt, subst, sym, Tables, turns_of, ℕ, ◌++◌, ◌+◌, ◌<◌, ◌∙◌, ◌∷◌, ◌≡◌, ◌⊎◌}
 use Rattle.ob_base.specs.Indexes.{leaf_of_draw}
-use Rattle.ob_base.specs.declared.config.Public.{Public}
-use Rattle.ob_exec.proofs.LeavesRead.{Given, KeyAt, Unread}
-use Rattle.ob_exec.specs.InFlight.{served_as}
+use Rattle.ob_exec.proofs.LeavesRead.{KeyAt, Unread}
 use Rattle.ob_headline.specs.Accesses.{AreSeen, LeavesAloft, StopsWithin, any_cut, cut_aloft}
-use Rattle.ob_headline.specs.Failures.{RisesBy, cut_off}
-use Rattle.ob_headline.specs.Flights.{GoesOn, Seat, after_entries, whole_of}
-use Rattle.ob_headline.specs.Statements.{SpellFirst, statements}
-use Rattle.ob_headline.specs.Words.{Answer}
-use Rattle.ob_headline.specs.declared.ending.Ending.{Ending}
-use Rattle.ob_mean.specs.Replay.{Broken, Spelt}
-use Rattle.ob_mean.specs.Verdict.{Draws, Tables}
-use Rattle.ob_oram.specs.declared.index.Index.{Index}
+use Rattle.ob_headline.specs.Flights.{GoesOn, after_entries, whole_of}
+use Rattle.ob_mean.specs.Replay.{Broken}
 use Rattle.ob_script.proofs.FlightLemmas.{next_after}
-use Rattle.ob_script.specs.Flights.{Entry as Turn, turns_of}
+use Rattle.ob_script.specs.Flights.{Entry as Turn}
 use Rattle.ob_script.specs.Trace.{Served as Entry}
 use Rattle.ob_shell.proofs.CalmLemmas.{first_calm}
 use Rattle.ob_shell.proofs.FlightCuts.{any_first, any_rest, cut_same, failed_same, failures_more, none_cut}
@@ -32,14 +21,8 @@ use Rattle.ob_shell.proofs.LeavePath.{HaveLanded, Path, together_along, together
 use Rattle.ob_shell.proofs.ReplayLemmas.{free_holds, holds_free, no_lie}
 use Rattle.ob_shell.proofs.WalkEntries.{seats_at, trace_at, whole_flown}
 use Rattle.ob_shell.proofs.WalkLemmas.{Behind, EarlyAt, Full, Walked, world}
-use Rattle.ob_shell.specs.Steps.{Holds, Machine, StepTogether, session_of, statements_of}
-use Rattle.ob_sql.specs.declared.stmt.Stmt.{Stmt}
-use Rattle.ob_store.specs.State.{Lie}
-use Rattle.ob_tables.specs.Agreeing.{AreDraws, engine_start, indexes_of, public_of}
-use Rattle.ob_tables.specs.Telling.{ReadsTrueUntil}
-use Rattle.ob_vault.specs.State.{RevState, Start}
+use Rattle.ob_shell.specs.Steps.{Holds}
 use Rattle.ob_vault.specs.Tied.{Calm, IsUnfit, TagFits}
-use Rattle.ob_seal.specs.KeySet.{KeySet}
 
 -- what is known of the keys of indexes is of the same ones
 abbrev given_by : (d : Draws) (xs ys : List Index) → xs ≡ ys → Given d xs → Given d ys

@@ -1,32 +1,15 @@
 -- What a sink took of the answers of statements in flight.
-use Rattle.std.proofs.Common.{◌≡◌, ◌⊎◌, ◌+◌, ℕ, Bool, List, [], ◌++◌, length, Option, Ok, Err, inl, inr, refl, sym, ap, ◌∙◌, subst, arith, append-nil, true, false}
+use Rattle.ob_shell.proofs.Words.{ap, append-nil, arith, Bool, closing_line, Engine, Err, Event, events_text, false, inl, inr, length, List, Ok, Option, Outcome, Outputs, Outputs-by, Outputs-fault, Outputs-whole, printed, PrintsUntil, refl, RevState, RunStop, Seen, Sends, session_stop, Stmt, StoreState, subst, sym, Tally, true, ℕ, [], ◌++◌, ◌+◌, ◌∙◌, ◌≡◌, ◌⊎◌}
 use Rattle.std.proofs.Math.Seq.{take_all}
-use Rattle.ob_base.specs.Events.{Event}
-use Rattle.ob_base.specs.declared.seen.Seen.{Seen}
 use Rattle.ob_exec.specs.RanFlight.{RanFlight}
-use Rattle.ob_headline.specs.Closing.{closing_line}
-use Rattle.ob_headline.specs.Meaning.{PrintsUntil}
-use Rattle.ob_headline.specs.Words.{printed}
-use Rattle.ob_print.proofs.CutLemmas.{Outputs-by, Outputs-fault, Outputs-whole}
 use Rattle.ob_print.proofs.SentLemmas.{Sends-cut, flushed, flushed_cut, flushed_whole}
-use Rattle.ob_print.specs.Cuts.{Outputs}
-use Rattle.ob_print.specs.Rows.{events_text}
-use Rattle.ob_print.specs.Sent.{Sends}
 use Rattle.ob_shell.proofs.AloftLemmas.{SentUntil, counted_ended, few_ended, few_until, flew_whole, printed_ended, ran_aloft, sent_until}
 use Rattle.ob_shell.specs.Aloft.{CutsFlight, FlewUntil, answers_of}
-use Rattle.ob_gen.specs.declared.tally.Tally.{Tally}
 use Rattle.ob_shell.specs.Flying.{CountsFlight, PrintsWhole, RestsFlight}
 use Rattle.ob_shell.specs.Tallies.{tally_after, tally_seen}
-use Rattle.ob_sql.specs.declared.stmt.Stmt.{Stmt}
-use Rattle.ob_store.specs.State.{StoreState}
-use Rattle.ob_tables.specs.Stops.{session_stop}
-use Rattle.ob_tables.specs.declared.engine.Engine.{Engine}
-use Rattle.ob_tables.specs.declared.stop.RunStop.{RunStop}
 use Rattle.ob_tables.specs.declared.stop.RunStop.TheVariants as Runs
 use Rattle.ob_turns.proofs.Closings.{closes_kept, closes_sent}
 use Rattle.ob_turns.specs.Kept.{IsKept, closed_text}
-use Rattle.ob_vault.specs.State.{RevState}
-use Rattle.ob_verdict.specs.declared.outcome.Outcome.{Outcome}
 
 -- all of it is printed
 prints_all : (stop : RunStop) (text : List ℕ) → PrintsUntil (session_stop stop) text text

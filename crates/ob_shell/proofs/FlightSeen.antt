@@ -1,33 +1,16 @@
 -- What is seen of statements that fly, and how they are gathered.
-use Rattle.std.specs.Prelude.{◌&&◌, if◌then◌else◌, map, nat_lt, take, ⊤}
-use Rattle.std.specs.List.{All}
-use Rattle.std.proofs.Common.{◌≡◌, ◌⊎◌, ◌+◌, ◌≤◌, ◌<◌, ◌++◌, inl, inr, ℕ, suc, true, List, [], ◌∷◌, length, Option, Some, None, Ok, refl, sym, ◌∙◌, ap, subst, arith}
-use Rattle.std.proofs.lemmas.List.Elements.{All-cons, All-head, All-tail}
-use Rattle.ob_base.specs.declared.config.Public.{Public}
-use Rattle.ob_base.specs.declared.seen.Seen.{Seen}
-use Rattle.ob_exec.specs.InFlight.{EndsAs, IsFlown}
+use Rattle.ob_shell.proofs.Words.{All, All-cons, All-head, All-tail, Answer, answer_labels, answer_of, ap, arith, closing_line, cut_off, end_cut, events_text, gathered_then, Gathering, if◌then◌else◌, inl, inr, is_cut, IsFlown, length, List, map, may_fly, nat_lt, None, Ok, Option, place_now, Public, refl, refusal_now, RefusedEarly, Seat, Seen, skeleton, Some, Spelt, StandsAs, Stmt, subst, suc, sym, take, true, ℕ, [], ⊤, ◌&&◌, ◌++◌, ◌+◌, ◌<◌, ◌∙◌, ◌∷◌, ◌≡◌, ◌≤◌, ◌⊎◌}
+use Rattle.ob_exec.specs.InFlight.{EndsAs}
 use Rattle.ob_headline.specs.Accesses.{AreSeen, IsLeft}
-use Rattle.ob_headline.specs.Closing.{closing_line}
-use Rattle.ob_headline.specs.Failures.{cut_off}
-use Rattle.ob_headline.specs.Flights.{AreGathered, EndedBy, OnBy, Seat, Stand, gathered_then, may_fly, place_now}
-use Rattle.ob_headline.specs.Words.{Answer}
+use Rattle.ob_headline.specs.Flights.{AreGathered, EndedBy, OnBy, Stand}
 use Rattle.ob_inflight.specs.Closing.{Closed}
-use Rattle.ob_mean.specs.Batches.{Gathering, is_cut}
 use Rattle.ob_mean.specs.Lawful.{Lawful}
-use Rattle.ob_mean.specs.Replay.{Spelt}
-use Rattle.ob_print.specs.Rows.{events_text}
 use Rattle.ob_script.specs.Trace.{Served}
 use Rattle.ob_shell.proofs.EndLemmas.{alone_joins, failed_by, says}
 use Rattle.ob_shell.proofs.FlownLists.{Flown, Places, flown_list, seats_in, served_in_all, served_of, stmts_in}
 use Rattle.ob_shell.proofs.SelectLemmas.{flown_apart, flown_gathers}
-use Rattle.ob_shell.specs.Aloft.{answer_of}
-use Rattle.ob_sql.specs.Skeleton.{skeleton}
-use Rattle.ob_sql.specs.declared.stmt.Stmt.{Stmt}
-use Rattle.ob_tables.specs.Running.{RefusedEarly, outcome_end}
-use Rattle.ob_tables.specs.Telling.{answer_labels}
-use Rattle.ob_verdict.specs.Outcomes.{Emits, refusal_now}
-use Rattle.ob_tables.proofs.CutLemmas.{end_cut}
-use Rattle.ob_mean.specs.Standing.{StandsAs}
+use Rattle.ob_tables.specs.Running.{outcome_end}
+use Rattle.ob_verdict.specs.Outcomes.{Emits}
 
 -- ---- one of them
 pub record Stood (f : Flown) : Type 0 where

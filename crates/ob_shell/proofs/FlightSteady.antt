@@ -1,14 +1,7 @@
 -- What flew asks in a way that doesn't hang on the number of its region.
-use Rattle.std.specs.Prelude.{slice_get}
-use Rattle.std.proofs.Common.{◌≡◌, ℕ, zero, suc, true, List, [], ◌∷◌, Option, Some, None, Result, refl, subst}
-use Rattle.ob_base.specs.declared.config.Plan.{Plan}
+use Rattle.ob_shell.proofs.Words.{AfterCount, Cut, End, IsFlown, Joined, List, Machine, may_fly, MayFly, None, Option, Plan, Public, public_of, RanAloft, refl, Result, RevState, RunStop, Seen, served_as, skeleton, slice_get, Some, StandsAs, Static, Stmt, subst, suc, true, Whole, zero, ℕ, [], ◌∷◌, ◌≡◌}
 use Rattle.ob_base.specs.declared.config.Plan.TheVariants.{Small, Large, Continuous, Hash}
 use Rattle.ob_base.specs.declared.config.Planner.TheVariants.{Forced}
-use Rattle.ob_base.specs.declared.config.Public.{Public}
-use Rattle.ob_base.specs.declared.seen.End.{End}
-use Rattle.ob_base.specs.declared.seen.End.TheVariants.{Static, Whole, AfterCount, Joined, Cut}
-use Rattle.ob_base.specs.declared.seen.Seen.{Seen}
-use Rattle.ob_exec.specs.InFlight.{IsFlown, served_as}
 use Rattle.ob_inflight.specs.Closing.{Closed}
 use Rattle.ob_mean.specs.Lawful.{Holds, Lawful}
 use Rattle.ob_script.proofs.Steady.{all_steady}
@@ -17,15 +10,6 @@ use Rattle.ob_script.specs.Flights.{AreSteady}
 use Rattle.ob_script.specs.Trace.{Served}
 use Rattle.ob_shell.proofs.FlightFacts.{all_get}
 use Rattle.ob_shell.proofs.SelectLemmas.{flown_selects}
-use Rattle.ob_headline.specs.Flights.{may_fly}
-use Rattle.ob_shell.specs.Aloft.{RanAloft}
-use Rattle.ob_shell.specs.Steps.{Machine, MayFly}
-use Rattle.ob_sql.specs.Skeleton.{skeleton}
-use Rattle.ob_sql.specs.declared.stmt.Stmt.{Stmt}
-use Rattle.ob_tables.specs.Agreeing.{public_of}
-use Rattle.ob_tables.specs.declared.stop.RunStop.{RunStop}
-use Rattle.ob_vault.specs.State.{RevState}
-use Rattle.ob_mean.specs.Standing.{StandsAs}
 
 -- by Small no other plan comes behind
 small_alone : (p : Public) (stmt : Stmt) (seen : Seen) (k : Option ℕ) (plan second : Option Plan) → p.planner ≡ Forced Small → Holds p stmt seen k plan second → second ≡ None

@@ -1,27 +1,13 @@
 -- Where a sink failed within the answers of a flight, or behind them.
-use Rattle.std.specs.Prelude.{drop, if◌then◌else◌, slice_get, take}
-use Rattle.std.specs.List.{All}
-use Rattle.std.specs.Io.KnownBytes.{Appends}
-use Rattle.std.proofs.Common.{◌≡◌, ◌⊎◌, ◌+◌, ◌≤◌, ◌<◌, ◌++◌, inl, inr, ℕ, zero, suc, Bool, true, false, List, [], ◌∷◌, length, Option, Some, None, Ok, Err, refl, sym, ◌∙◌, ap, subst, arith, append_assoc, append-nil, length-append, take-append-drop}
-use Rattle.std.proofs.lemmas.List.{append_cancel_left, length-map}
-use Rattle.ob_base.specs.declared.access.Access.{Access}
-use Rattle.ob_base.specs.declared.seen.Seen.{Seen}
+use Rattle.ob_shell.proofs.Words.{Access, All, Answer, ap, append-nil, append_assoc, append_cancel_left, Appends, arith, asked_of, Bool, done_of, drop, Ending, Err, false, FinishedTogether, if◌then◌else◌, inl, inr, is_tampered, length, length-append, length-map, List, Machine, None, Ok, Option, Outputs, printed, PrintsUntil, public_of, Ran, RanAloft, refl, RevState, RunStop, Seat, Seen, served_as, Session, session_stop, slice_get, Some, Stmt, subst, suc, sym, take, take-append-drop, Took, true, turns_of, zero, ℕ, [], ◌++◌, ◌+◌, ◌<◌, ◌∙◌, ◌∷◌, ◌≡◌, ◌≤◌, ◌⊎◌}
 use Rattle.ob_base.specs.declared.refusal.Stop.TheVariants as Stops
-use Rattle.ob_exec.specs.InFlight.{served_as}
 use Rattle.ob_headline.proofs.FlightLeft.{ended_left}
 use Rattle.ob_headline.proofs.TakenLemmas.{LosesSo, taken_answers}
 use Rattle.ob_headline.specs.Accesses.{FirstWants, LeavesAloft, LeavesFlight, OneMakes, ends_within}
-use Rattle.ob_headline.specs.Flights.{EndedBy, Seat, Stand, asked_until, has_ended}
-use Rattle.ob_headline.specs.Endings.{is_tampered}
-use Rattle.ob_headline.specs.Meaning.{PrintsUntil}
-use Rattle.ob_headline.specs.Words.{Answer, Took, printed}
-use Rattle.ob_headline.specs.declared.ending.Ending.{Ending}
-use Rattle.ob_headline.specs.declared.ending.Ending.TheVariants.{Ran}
+use Rattle.ob_headline.specs.Flights.{EndedBy, Stand, asked_until, has_ended}
 use Rattle.ob_inflight.specs.Closing.{Closed}
-use Rattle.ob_mean.specs.Replay.{Session, done_of}
-use Rattle.ob_print.specs.Cuts.{Outputs}
 use Rattle.ob_script.proofs.FlightLemmas.{logs_grow}
-use Rattle.ob_script.specs.Flights.{Flight, boarding, merge, turns, turns_of}
+use Rattle.ob_script.specs.Flights.{Flight, boarding, merge, turns}
 use Rattle.ob_script.specs.Trace.{Served as Entry}
 use Rattle.ob_shell.proofs.FlightEnd.{all_fs, aloft, in_all, left_walked, spelt_left, turn_of}
 use Rattle.ob_shell.proofs.FlightFacts.{ByThen, first_answered, past_none, places, seats_are}
@@ -31,15 +17,9 @@ use Rattle.ob_shell.proofs.FlightSeen.{FirstAnswered, IsAnswerOf, IsIn, Stood}
 use Rattle.ob_shell.proofs.FlownLists.{Flown, seats_in}
 use Rattle.ob_shell.proofs.StopLemmas.{stop_untampered}
 use Rattle.ob_shell.proofs.WalkLemmas.{EarlyAt}
-use Rattle.ob_shell.specs.Aloft.{RanAloft, answers_of}
-use Rattle.ob_shell.specs.Steps.{FinishedTogether, Machine, asked_of}
-use Rattle.ob_sql.specs.declared.stmt.Stmt.{Stmt}
-use Rattle.ob_tables.specs.Agreeing.{public_of}
-use Rattle.ob_tables.specs.Stops.{session_stop}
+use Rattle.ob_shell.specs.Aloft.{answers_of}
 use Rattle.ob_tables.specs.Telling.{is_refused}
-use Rattle.ob_tables.specs.declared.stop.RunStop.{RunStop}
 use Rattle.ob_tables.specs.declared.stop.RunStop.TheVariants as Runs
-use Rattle.ob_vault.specs.State.{RevState}
 
 -- ---- what a sink took behind answers that it took whole
 printed_both : (xs ys : List Answer) → printed (xs ++ ys) ≡ printed xs ++ printed ys

@@ -1,48 +1,24 @@
 -- SELECTs that waited, once they flew.
-use Rattle.std.specs.Prelude.{◌*◌, ◌/◌, OnErr, OnOk, Result, is_some, max, min, not, slice_get}
-use Rattle.std.specs.List.{All}
-use Rattle.std.proofs.Common.{get_or, ◌≡◌, ◌<◌, ◌≤◌, ◌+◌, inl, inr, ℕ, Bool, true, false, List, [], ◌∷◌, ◌++◌, length, Option, None, Some, Ok, Err, refl, sym, ap, ◌∙◌, subst, arith}
-use Rattle.std.proofs.lemmas.List.Elements.{All-head, All-weaker}
-use Rattle.ob_base.specs.declared.config.Public.{Public}
-use Rattle.ob_base.specs.declared.skeleton.Skeleton.{Skeleton}
+use Rattle.ob_shell.proofs.Words.{All, All-head, All-weaker, ap, AreBatch, AreSpelt, arith, begins, begins_batch, Bool, Engine, engine_keys, Err, false, Faults, flights_of, FlightSettings, Gathered, inl, inr, inserts_into, is_some, IsReady, KeeperState, KeySet, length, List, Machine, machine_of, may_fly, MayFly, most_flown, no_flights, None, Ok, opened_from, Option, Outputs, Outputs-whole, pair_of, PartlyAt, Public, public_of, refl, Result, RevState, RunStop, SelectsFromOne, served_as, Skeleton, skeleton, slice_get, Some, standing, Stmt, StoreState, subst, sym, Tally, TextHalted, Took, Traced, TracedAll, true, turns_of, ℕ, [], ◌++◌, ◌+◌, ◌<◌, ◌∙◌, ◌∷◌, ◌≡◌, ◌≤◌}
+use Rattle.std.specs.Prelude.{◌*◌, ◌/◌, OnErr, OnOk, max, min, not}
+use Rattle.std.proofs.Common.{get_or}
 use Rattle.ob_base.specs.declared.skeleton.Skeleton.TheVariants.{Create as CreateSkeleton, Delete as DeleteSkeleton, Drop as DropSkeleton, Groups, Insert as InsertSkeleton, Rows, Update as UpdateSkeleton}
 use Rattle.ob_base.specs.declared.skeleton.Source.TheVariants.{Table as OneTable, Join}
-use Rattle.ob_exec.specs.InFlight.{AreFlight, Flies, served_as}
+use Rattle.ob_exec.specs.InFlight.{AreFlight, Flies}
 use Rattle.ob_exec.specs.Saving.{MaySave}
-use Rattle.ob_gen.specs.declared.tally.Tally.{Tally}
-use Rattle.ob_headline.specs.Flights.{may_fly, most_flown}
-use Rattle.ob_headline.specs.Words.{Faults, Took}
-use Rattle.ob_headline.specs.declared.flight.FlightSettings.{FlightSettings}
-use Rattle.ob_mean.proofs.BatchLemmas.{begins}
-use Rattle.ob_mean.specs.Batches.{begins_batch, inserts_into}
 use Rattle.ob_mean.specs.Replay.{has_index, is_access}
-use Rattle.ob_print.proofs.CutLemmas.{Outputs-whole}
-use Rattle.ob_print.specs.Cuts.{Outputs}
-use Rattle.ob_reopen.specs.Keepers.{KeeperState}
 use Rattle.ob_script.proofs.FlightLemmas.{next_after}
-use Rattle.ob_script.specs.FlightLaws.{SelectsFromOne}
-use Rattle.ob_script.specs.Flights.{drawn, turns_of}
-use Rattle.ob_seal.specs.KeySet.{KeySet, pair_of}
+use Rattle.ob_script.specs.Flights.{drawn}
 use Rattle.ob_shell.proofs.GatherLemmas.{no_insert}
 use Rattle.ob_shell.proofs.StepLemmas.{PartlyAt-rests, Steps-none, printed-nil, steps_together}
 use Rattle.ob_shell.proofs.PlaceLemmas.{place_other, place_past, same_fly}
 use Rattle.ob_shell.proofs.TookLemmas.{took_whole, traced_to_none}
 use Rattle.ob_shell.specs.Aloft.{CutsFlight}
-use Rattle.ob_shell.specs.Flying.{RestsFlight, RunsFlight, flights_of}
+use Rattle.ob_shell.specs.Flying.{RestsFlight, RunsFlight}
 use Rattle.ob_shell.specs.Running.{IsQuiet, halted_of}
 use Rattle.ob_shell.specs.Serving.{ServesBatch, TakesTexts}
-use Rattle.ob_shell.specs.Steps.{AreSpelt, Gathered, IsApartFrom, IsReady, Machine, MayFly, PartlyAt, machine_of, no_flights, standing}
-use Rattle.ob_shell.specs.Traces.{Traced, TracedAll}
+use Rattle.ob_shell.specs.Steps.{IsApartFrom}
 use Rattle.ob_shell.specs.Waiting.{AreBatched, AreFlown, BreaksIn, ComesFree, IsClosed}
-use Rattle.ob_shell.specs.declared.session.TextHalted.{TextHalted}
-use Rattle.ob_sql.specs.Skeleton.{skeleton}
-use Rattle.ob_sql.specs.declared.stmt.Stmt.{Stmt}
-use Rattle.ob_store.specs.State.{StoreState}
-use Rattle.ob_tables.specs.Agreeing.{engine_keys, opened_from, public_of}
-use Rattle.ob_tables.specs.Batch.{AreBatch}
-use Rattle.ob_tables.specs.declared.engine.Engine.{Engine}
-use Rattle.ob_tables.specs.declared.stop.RunStop.{RunStop}
-use Rattle.ob_vault.specs.State.{RevState}
 
 -- ---- which may fly
 flies_one : (p : Public) (m : ℕ) (stmt : Stmt) → may_fly p (skeleton stmt) ≡ true → Flies p m stmt

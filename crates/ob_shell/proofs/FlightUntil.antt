@@ -1,23 +1,13 @@
 -- What had ended within a flight's first accesses, over a store that others change only behind these, is answered and seen as it is meant.
-use Rattle.std.proofs.Common.{◌≡◌, ◌≤◌, ◌+◌, ℕ, Bool, true, false, IsTrue, List, length, Option, refl, sym, subst, arith}
-use Rattle.ob_base.specs.declared.seen.Seen.{Seen}
+use Rattle.ob_shell.proofs.Words.{answer_labels, arith, Bool, by_fault, count_of, Disturbance, Draws, Emitted, Engine, false, is_fault, IsBefore, IsSteady, IsTrue, length, List, Option, outcome_of, public_of, refl, Represents, RevState, Seen, skeleton, Stmt, StoreState, subst, sym, Tables, true, ℕ, ◌+◌, ◌≡◌, ◌≤◌}
 use Rattle.ob_exec.specs.InFlight.{EndsMeant}
 use Rattle.ob_exec.specs.RanFlight.{MeantThen, in_flight}
 use Rattle.ob_inflight.specs.Closing.{Closed}
 use Rattle.ob_mean.specs.Prints.{Prints, Unfinished}
 use Rattle.ob_mean.specs.Replay.{cut_at}
-use Rattle.ob_mean.specs.Verdict.{Draws, Tables, seen as seen_by, verdict}
+use Rattle.ob_mean.specs.Verdict.{seen as seen_by, verdict}
 use Rattle.ob_shell.proofs.DisturbLemmas.{before_less}
-use Rattle.ob_sql.specs.Skeleton.{skeleton}
-use Rattle.ob_sql.specs.declared.stmt.Stmt.{Stmt}
-use Rattle.ob_store.specs.Calls.{IsBefore, IsQuiet, IsSteady}
-use Rattle.ob_store.specs.State.{Disturbance, StoreState}
-use Rattle.ob_tables.specs.Agreeing.{count_of, public_of}
-use Rattle.ob_tables.specs.Running.{is_fault}
-use Rattle.ob_tables.specs.Telling.{Emitted, Represents, answer_labels}
-use Rattle.ob_tables.specs.declared.engine.Engine.{Engine}
-use Rattle.ob_vault.specs.State.{RevState}
-use Rattle.ob_verdict.specs.Outcomes.{by_fault, outcome_of}
+use Rattle.ob_store.specs.Calls.{IsQuiet}
 
 pub record AsMeant {R : Type 0} (d : Draws) (stmts : List Stmt) (tables : Tables) (stmt : Stmt) (seen : Seen) (one : Closed) (old : Engine R) (s : StoreState) : Type 0 where
   pub answered : one.outcome ≡ outcome_of stmt (verdict (in_flight stmts (public_of old)) (count_of old s) tables stmt)

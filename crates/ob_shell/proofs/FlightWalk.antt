@@ -1,22 +1,8 @@
 -- A walk over texts that were answered together, and then over the others.
-use Rattle.std.specs.Prelude.{◌&&◌, if◌then◌else◌, map, nat_lt, slice_get, take}
-use Rattle.std.specs.List.{All}
-use Rattle.std.proofs.Common.{◌≡◌, ◌+◌, ◌≤◌, ◌++◌, ℕ, true, List, [], ◌∷◌, length, Option, None, Ok, refl, sym, ◌∙◌, ap, subst, arith, append_assoc, length-append}
-use Rattle.std.proofs.lemmas.List.{length-map}
-use Rattle.std.proofs.lemmas.List.Elements.{All-cons, All-head, All-nil, All-tail}
-use Rattle.ob_base.specs.declared.access.Access.{Access}
-use Rattle.ob_base.specs.declared.config.Public.{Public}
-use Rattle.ob_base.specs.declared.seen.Seen.{Seen}
-use Rattle.ob_exec.proofs.LeavesRead.{Given}
-use Rattle.ob_exec.specs.InFlight.{served_as}
+use Rattle.ob_shell.proofs.Words.{Access, All, All-cons, All-head, All-nil, All-tail, Answer, ap, append_assoc, arith, asked_of, Draws, Gathered, Gathering, Given, if◌then◌else◌, indexes_of, length, length-append, length-map, List, Machine, map, may_fly, most_flown, nat_lt, None, Ok, Option, place_now, Public, public_of, refl, RevState, Seat, Seen, SelectsFromOne, served_as, skeleton, slice_get, Spelt, StepTogether, Stmt, subst, sym, take, true, turns_of, ℕ, [], ◌&&◌, ◌++◌, ◌+◌, ◌∙◌, ◌∷◌, ◌≡◌, ◌≤◌}
 use Rattle.ob_headline.specs.Accesses.{AreSeen}
-use Rattle.ob_headline.specs.Flights.{AreEntries, AreGathered, EndedBy, MayFly as FlyMay, Seat, after_entries, may_fly, most_flown, place_now, seats_aloft, served_by}
-use Rattle.ob_headline.specs.Words.{Answer}
-use Rattle.ob_mean.specs.Batches.{Gathering}
-use Rattle.ob_mean.specs.Replay.{Spelt}
-use Rattle.ob_mean.specs.Verdict.{Draws}
-use Rattle.ob_script.specs.FlightLaws.{SelectsFromOne}
-use Rattle.ob_script.specs.Flights.{Entry as Turn, Together, flight_accesses, next_flight, turns_of, words_from}
+use Rattle.ob_headline.specs.Flights.{AreEntries, AreGathered, EndedBy, MayFly as FlyMay, after_entries, seats_aloft, served_by}
+use Rattle.ob_script.specs.Flights.{Entry as Turn, Together, flight_accesses, next_flight, words_from}
 use Rattle.ob_script.specs.Trace.{Served as Entry}
 use Rattle.ob_shell.proofs.FlightFacts.{all_get, all_places, all_stood, all_unleft, fs, seats_are, served_are, stmts_are, whole_answered}
 use Rattle.ob_shell.proofs.FlightSeen.{AllAnswered, PlacesFrom, Stood, flown_lawful, gathers_flown, whole_ended, whole_seen}
@@ -27,11 +13,6 @@ use Rattle.ob_shell.proofs.SelectLemmas.{flown_leaf, flown_selects}
 use Rattle.ob_shell.proofs.WalkEntries.{EntriesSo, flown_are, most_at, seats_at, trace_at}
 use Rattle.ob_shell.proofs.HowLemmas.{StartsApart}
 use Rattle.ob_shell.proofs.ReplayLemmas.{counts_on}
-use Rattle.ob_shell.specs.Steps.{Gathered, Machine, StepTogether, asked_of}
-use Rattle.ob_sql.specs.Skeleton.{skeleton}
-use Rattle.ob_sql.specs.declared.stmt.Stmt.{Stmt}
-use Rattle.ob_tables.specs.Agreeing.{indexes_of, public_of}
-use Rattle.ob_vault.specs.State.{RevState}
 
 -- ---- how they are served
 module _ {R : Type 0} (state : R → RevState) (m0 m1 : Machine R) (texts : List (List ℕ)) (given : List Answer) (step : StepTogether state m0 m1 texts given) where

@@ -1,26 +1,13 @@
 -- A flight that was left for want of memory.
-use Rattle.std.specs.Prelude.{◌==◌, drop, slice_get, take}
-use Rattle.std.specs.List.{All}
-use Rattle.std.specs.Option.{option_map_or}
-use Rattle.std.proofs.Common.{◌≡◌, ◌⊎◌, ◌+◌, ◌≤◌, inl, inr, ℕ, zero, suc, Bool, false, IsTrue, List, [], ◌∷◌, length, Option, Some, None, Err, refl, sym, ◌∙◌, ap, subst, arith, take-append-drop}
+use Rattle.ob_shell.proofs.Words.{Access, All, All-head, All-tail, Answer, ap, arith, Bool, CutTogether, drop, Ending, Err, false, inl, inr, IsTrue, length, List, Machine, None, Option, option_map_or, Public, public_of, Ran, RanAloft, refl, RevState, RunStop, script, Seat, Seen, served_as, served_long, session_stop, skeleton, slice_get, Some, statements, Stmt, subst, suc, sym, take, take-append-drop, turns_of, whole_script, zero, ℕ, [], ◌+◌, ◌∙◌, ◌∷◌, ◌≡◌, ◌≤◌, ◌⊎◌}
+use Rattle.std.specs.Prelude.{◌==◌}
 use Rattle.std.proofs.lemmas.Bool.{eq-eqb}
 use Rattle.std.proofs.lemmas.List.{drop_all, length-drop, length-take-le}
-use Rattle.std.proofs.lemmas.List.Elements.{All-head, All-tail}
-use Rattle.ob_base.specs.declared.access.Access.{Access}
-use Rattle.ob_base.specs.declared.config.Public.{Public}
-use Rattle.ob_base.specs.declared.seen.Seen.{Seen}
-use Rattle.ob_exec.proofs.FlightLists.{served_long}
-use Rattle.ob_exec.specs.InFlight.{served_as}
 use Rattle.ob_exec.specs.RanFlight.{InEnd, InTurn, asked_next, in_flight}
 use Rattle.ob_headline.proofs.UntilLemmas.{until_ended}
 use Rattle.ob_headline.specs.Accesses.{FirstWants, HasTurn, LeavesAloft, LeavesFlight, MakesAloft, OneMakes, WantsAloft, ends_within}
-use Rattle.ob_headline.specs.Flights.{EndedBy, OnBy, Seat, Stand, stand_at}
-use Rattle.ob_headline.specs.Statements.{statements}
-use Rattle.ob_headline.specs.Words.{Answer}
-use Rattle.ob_headline.specs.declared.ending.Ending.{Ending}
-use Rattle.ob_headline.specs.declared.ending.Ending.TheVariants.{Ran}
-use Rattle.ob_script.specs.Flights.{AreSteady, Flying, boarding, flight_public, turns_of}
-use Rattle.ob_script.specs.Script.{script, whole_script}
+use Rattle.ob_headline.specs.Flights.{EndedBy, OnBy, Stand, stand_at}
+use Rattle.ob_script.specs.Flights.{AreSteady, Flying, boarding, flight_public}
 use Rattle.ob_script.specs.Trace.{Served as Entry}
 use Rattle.ob_select.proofs.SelectRuns.{ends-more}
 use Rattle.ob_select.specs.Memory.{AtEmission, AtMake, AtResult, ends_with_make}
@@ -31,15 +18,7 @@ use Rattle.ob_shell.proofs.FlightSeen.{spelt_in}
 use Rattle.ob_shell.proofs.FlightSteady.{steady_flown}
 use Rattle.ob_shell.proofs.FlownLists.{Flown, Places, each_flown, flown_at, seats_in, served_in_all}
 use Rattle.ob_shell.proofs.WalkEntries.{seats_at}
-use Rattle.ob_shell.specs.Aloft.{RanAloft}
-use Rattle.ob_shell.specs.Steps.{CutTogether, Machine}
-use Rattle.ob_sql.specs.Skeleton.{skeleton}
-use Rattle.ob_sql.specs.declared.stmt.Stmt.{Stmt}
-use Rattle.ob_tables.specs.Agreeing.{public_of}
-use Rattle.ob_tables.specs.Stops.{session_stop}
-use Rattle.ob_tables.specs.declared.stop.RunStop.{RunStop}
 use Rattle.ob_tables.specs.declared.stop.RunStop.TheVariants as Runs
-use Rattle.ob_vault.specs.State.{RevState}
 
 -- ---- for which of them
 abbrev HadEnded : Seat → Type 0

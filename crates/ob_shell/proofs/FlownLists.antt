@@ -1,16 +1,8 @@
 -- Statements that fly, each with what is known of it, as a list.
-use Rattle.std.specs.Prelude.{map, slice_get}
-use Rattle.std.specs.List.{All}
-use Rattle.std.proofs.Common.{◌≡◌, ◌+◌, ℕ, suc, List, [], ◌∷◌, length, Option, Some, None, refl, ap, subst, arith}
-use Rattle.std.proofs.lemmas.List.Elements.{All-cons, All-nil}
-use Rattle.ob_base.specs.declared.config.Public.{Public}
-use Rattle.ob_base.specs.declared.seen.Seen.{Seen}
-use Rattle.ob_exec.specs.InFlight.{served_as}
-use Rattle.ob_headline.specs.Flights.{Seat, seat_aloft, seats_aloft}
+use Rattle.ob_shell.proofs.Words.{All, All-cons, All-nil, ap, arith, length, List, map, None, Option, Public, refl, Seat, Seen, served_as, skeleton, slice_get, Some, Stmt, subst, suc, ℕ, [], ◌+◌, ◌∷◌, ◌≡◌}
+use Rattle.ob_headline.specs.Flights.{seat_aloft, seats_aloft}
 use Rattle.ob_inflight.specs.Closing.{Closed}
 use Rattle.ob_script.specs.Trace.{Served}
-use Rattle.ob_sql.specs.Skeleton.{skeleton}
-use Rattle.ob_sql.specs.declared.stmt.Stmt.{Stmt}
 
 -- by what it goes, and what is seen of it; how many accesses of its own were asked, and how many of these carried out; and how
 -- it has ended, if it has

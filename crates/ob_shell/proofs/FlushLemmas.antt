@@ -1,44 +1,18 @@
 -- What becomes of texts that waited, once they are served together.
+use Rattle.ob_shell.proofs.Words.{Access, Agrees, ap, append-nil, Appends, Appends-nil, AreBatch, AreSpelt, arith, begins, Bool, count_of, Engine, Err, events_text, faults_of, Flights, Gathered, HasCause, inl, inr, inserts_into, is_err, KeeperState, List, Machine, machine_of, Ok, Option, Outcome, Outputs, Outputs-by, Outputs-whole, printed, PrintsUntil, public_of, RanBatch, refl, Result, RevState, RunStop, session_stop, Silenced, skeleton, Some, standing, Stmt, StopCause, StoreState, subst, sym, Tally, Took, true, ℕ, [], ◌++◌, ◌∙◌, ◌∷◌, ◌≡◌, ◌≤◌, ◌⊎◌}
 use Rattle.std.specs.Prelude.{IsErr, IsSome}
-use Rattle.std.specs.Result.{is_err}
-use Rattle.std.proofs.Common.{◌≡◌, ◌≤◌, ◌⊎◌, inl, inr, ℕ, Bool, true, List, [], ◌∷◌, ◌++◌, Option, Some, Result, Ok, Err, refl, sym, ap, ◌∙◌, subst, arith, append-nil}
-use Rattle.std.proofs.KnownBytes.{Appends-nil}
-use Rattle.std.specs.Io.KnownBytes.{Appends}
-use Rattle.ob_base.specs.declared.access.Access.{Access}
-use Rattle.ob_gen.specs.declared.tally.Tally.{Tally}
-use Rattle.ob_headline.specs.Meaning.{PrintsUntil}
-use Rattle.ob_headline.specs.Words.{Took, faults_of, printed}
-use Rattle.ob_exec.specs.RanBatch.{RanBatch}
-use Rattle.ob_mean.proofs.BatchLemmas.{begins}
-use Rattle.ob_io.specs.Causes.{HasCause}
-use Rattle.ob_mean.specs.Batches.{inserts_into}
-use Rattle.ob_print.proofs.CutLemmas.{Outputs-by, Outputs-whole}
-use Rattle.ob_print.specs.Cuts.{Outputs}
-use Rattle.ob_print.specs.Rows.{events_text}
-use Rattle.ob_reopen.specs.Keepers.{KeeperState}
 use Rattle.ob_shell.proofs.BatchSteps.{StandsAt, batch_closed, batch_lost, batch_steps, follow_unanswered, stopped_does, unanswered}
 use Rattle.ob_shell.proofs.StepLemmas.{PartlyAt-none, Steps-none, printed-nil}
 use Rattle.ob_shell.proofs.TookLemmas.{took_whole, traced_to_none}
 use Rattle.ob_shell.proofs.WithLemmas.{events_none, insert_of, insert_prints}
 use Rattle.ob_shell.specs.Lines.{LinesCut, line_answer, line_answers}
-use Rattle.ob_shell.specs.Running.{Silenced, StopCause}
-use Rattle.ob_shell.specs.Steps.{AreSpelt, Flights, Follow, Gathered, IsApartFrom, Machine, machine_of, none_gathered, standing}
+use Rattle.ob_shell.specs.Steps.{Follow, IsApartFrom, none_gathered}
 use Rattle.ob_shell.specs.Tallies.{tally_after}
 use Rattle.ob_shell.specs.Traces.{TracedTo}
 use Rattle.ob_shell.specs.Waiting.{BreaksIn, IsClosed, ServedSo}
-use Rattle.ob_sql.specs.Skeleton.{skeleton}
-use Rattle.ob_sql.specs.declared.stmt.Stmt.{Stmt}
 use Rattle.ob_sql.specs.declared.stmt.Stmt.TheVariants as S
-use Rattle.ob_store.specs.State.{StoreState}
-use Rattle.ob_tables.specs.Agreeing.{Agrees, count_of, public_of}
-use Rattle.ob_tables.specs.Batch.{AreBatch}
-use Rattle.ob_tables.specs.Stops.{session_stop}
-use Rattle.ob_tables.specs.declared.engine.Engine.{Engine}
-use Rattle.ob_tables.specs.declared.stop.RunStop.{RunStop}
 use Rattle.ob_tables.specs.declared.stop.RunStop.TheVariants as Runs
-use Rattle.ob_vault.specs.State.{RevState}
 use Rattle.ob_verdict.specs.Outcomes.{MayEmit}
-use Rattle.ob_verdict.specs.declared.outcome.Outcome.{Outcome}
 
 -- nothing is printed of a statement that emits nothing
 none_printed : (stop : RunStop) → PrintsUntil (session_stop stop) [] (events_text [])

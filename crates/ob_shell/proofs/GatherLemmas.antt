@@ -1,34 +1,14 @@
 -- One more statement that waits, and those that are as many as are served together then.
-use Rattle.std.specs.Prelude.{IsSome, OnOk, ◌||◌, bytes_eq, if◌then◌else◌, is_ok, nat_le}
-use Rattle.std.specs.List.{All}
-use Rattle.std.specs.Option.{option_map_or}
-use Rattle.std.specs.Result.{is_err}
-use Rattle.std.proofs.Common.{◌≡◌, ◌⊎◌, ◌<◌, ◌≤◌, ◌+◌, inl, inr, ℕ, Bool, true, false, List, [], ◌∷◌, ◌++◌, length, Option, None, Some, Result, Ok, Err, refl, sym, ap, ◌∙◌, subst, arith, append-nil, length-append}
+use Rattle.ob_shell.proofs.Words.{All, All-cons, All-head, All-nil, Answer, ap, append-nil, AreBatch, AreSpelt, arith, asked_of, at_rest, batch_most, begins, begins_batch, Bool, bytes_eq-Decides, Err, false, Faults, FlightSettings, Gathered, if◌then◌else◌, inl, inr, inserts_into, is_err, IsReady, length, length-append, List, Machine, may_fly, more_together, most_flown, most_some, nat_le, None, Ok, one_more, Option, option_map_or, OutFailed, Public, public_of, refl, Result, RevState, Skeleton, skeleton, Some, Spells, standing, Steps, Stmt, subst, sym, Tally, TextHalted, true, ℕ, [], ◌++◌, ◌+◌, ◌<◌, ◌||◌, ◌∙◌, ◌∷◌, ◌≡◌, ◌≤◌, ◌⊎◌}
+use Rattle.std.specs.Prelude.{IsSome, OnOk, bytes_eq, is_ok}
 use Rattle.std.proofs.lemmas.Bool.{and_parts}
-use Rattle.std.proofs.lemmas.List.Elements.{All-cons, All-head, All-nil, All-push}
-use Rattle.std.proofs.lemmas.Slice.Eq.{bytes_eq-Decides}
-use Rattle.ob_base.specs.declared.config.Public.{Public}
-use Rattle.ob_base.specs.declared.skeleton.Skeleton.{Skeleton}
-use Rattle.ob_base.specs.declared.skeleton.Skeleton.TheVariants.{Create as CreateSkeleton, Delete as DeleteSkeleton, Drop as DropSkeleton, Groups, Insert as InsertSkeleton, Rows, Update as UpdateSkeleton}
-use Rattle.ob_gen.specs.declared.tally.Tally.{Tally}
-use Rattle.ob_headline.specs.Flights.{may_fly, most_flown}
-use Rattle.ob_headline.specs.Statements.{Spells}
-use Rattle.ob_headline.specs.Words.{Answer, Faults}
-use Rattle.ob_headline.specs.declared.flight.FlightSettings.{FlightSettings}
-use Rattle.ob_mean.proofs.BatchLemmas.{begins, most_some}
-use Rattle.ob_mean.specs.Batches.{batch_most, begins_batch, inserts_into}
+use Rattle.std.proofs.lemmas.List.Elements.{All-push}
+use Rattle.ob_base.specs.declared.skeleton.Skeleton.TheVariants.{Groups, Insert as InsertSkeleton, Rows}
 use Rattle.ob_shell.proofs.TraceLemmas.{traced_none}
 use Rattle.ob_shell.proofs.WaitLemmas.{so_idle}
-use Rattle.ob_shell.specs.Running.{OutFailed}
 use Rattle.ob_shell.specs.Serving.{TakesTexts}
-use Rattle.ob_shell.specs.Steps.{AreSpelt, Gathered, IsApartFrom, IsReady, Machine, Steps, asked_of, at_rest, more_together, one_more, standing}
+use Rattle.ob_shell.specs.Steps.{IsApartFrom}
 use Rattle.ob_shell.specs.Waiting.{AreBatched, AreWaiting, AwaitsMore, BreaksIn, ComesFree, GoesAlong, IsApart, IsClosed, IsFree, ServedSo, are_alike, begins as waits_first, begins_flight, gather_most, goes_along}
-use Rattle.ob_shell.specs.declared.session.TextHalted.{TextHalted}
-use Rattle.ob_sql.specs.Skeleton.{skeleton}
-use Rattle.ob_sql.specs.declared.stmt.Stmt.{Stmt}
-use Rattle.ob_tables.specs.Agreeing.{public_of}
-use Rattle.ob_tables.specs.Batch.{AreBatch}
-use Rattle.ob_vault.specs.State.{RevState}
 
 -- ---- which ones wait
 -- as many as may be in flight are one at least

@@ -1,40 +1,17 @@
 -- What a run over the generated text promises.
-use Rattle.ob_headline.specs.declared.flight.FlightSettings.{FlightSettings}
-use Rattle.ob_shell.specs.Running.{OutFailed, ServesAlone}
-use Rattle.std.specs.Prelude.{◌≢◌, ⊤, option_and_then}
-use Rattle.std.proofs.Common.{◌≡◌, ℕ, ◌≤◌, Bool, true, false, List, [], Option, Some, None, Ok, Err, refl, sym, ◌∙◌, ap, subst, inl, inr, arith}
-use Rattle.std.proofs.KnownBytes.{Appends-nil}
-use Rattle.std.specs.Io.KnownBytes.{Appends}
+use Rattle.ob_shell.proofs.Words.{Access, ap, Appends, Appends-nil, arith, BadKey, Base, Bool, Config, empty_tally, Ending, Err, false, Faults, faults_of, FlightSettings, flying, fresh, inl, inr, IsFresh, keys_in, KeySet, last_line, LineWritten, List, None, Ok, Option, OutFailed, Outputs, Outputs-whole, outside_of, Ran, refl, refused_by, Report, Rises, Seed, ServesAlone, SinksRose, Some, status_of, StoreState, subst, sym, Tally, Traced, true, Usage, WordsErr, ℕ, [], ⊤, ◌∙◌, ◌≡◌, ◌≢◌, ◌≤◌}
+use Rattle.std.specs.Prelude.{option_and_then}
 use Rattle.clap.specs.Words.{App, Text}
-use Rattle.ob_base.specs.Counts.{Rises}
-use Rattle.ob_base.specs.declared.access.Access.{Access}
-use Rattle.ob_base.specs.declared.config.Config.{Config}
 use Rattle.ob_gen.specs.Generated.{generated}
-use Rattle.ob_gen.specs.Tally.{empty_tally}
-use Rattle.ob_gen.specs.declared.tally.Tally.{Tally}
-use Rattle.ob_headline.specs.Bases.{Base, flying, fresh}
-use Rattle.ob_headline.specs.Endings.{last_line, status_of}
 use Rattle.ob_headline.specs.Settings.{generated_by}
-use Rattle.ob_headline.specs.Words.{Faults, SinksRose, faults_of, keys_in, outside_of}
-use Rattle.ob_headline.specs.declared.ending.Ending.{Ending}
-use Rattle.ob_headline.specs.declared.ending.Ending.TheVariants.{Usage, BadKey, Ran}
-use Rattle.ob_headline.specs.declared.ending.Report.{Report}
-use Rattle.ob_headline.specs.declared.seed.Seed.{Seed}
-use Rattle.ob_print.proofs.CutLemmas.{Outputs-whole}
-use Rattle.ob_print.specs.Cuts.{Outputs}
 use Rattle.ob_shell.proofs.CloseLemmas.{reported_taken, words_cause, words_end, words_shown}
 use Rattle.ob_shell.proofs.CompleteLemmas.{completes}
 use Rattle.ob_shell.proofs.HeadLemmas.{headlined}
 use Rattle.ob_shell.proofs.TopLemmas.{loses_as, shown_line, status_cause}
 use Rattle.ob_shell.proofs.TraceLemmas.{traced_none, traced_whole}
-use Rattle.ob_shell.specs.Closed.{LineWritten, refused_by}
 use Rattle.ob_shell.specs.Generating.{RanGenerated, ClosedBy, ConcludedBy, Concludes, StatusIs, Summarized, asked_for, conclusion}
-use Rattle.ob_shell.specs.Top.{EndingCause, EndingWords, IsFresh, Reported, RunShown, StatusCause, TraceSink, sink_of}
-use Rattle.ob_shell.specs.Traces.{Traced}
-use Rattle.ob_words.specs.declared.words.WordsErr.{WordsErr}
+use Rattle.ob_shell.specs.Top.{EndingCause, EndingWords, Reported, RunShown, StatusCause, TraceSink, sink_of}
 use Rattle.ob_words.specs.declared.words.WordsErr.TheVariants as Words
-use Rattle.ob_store.specs.State.{StoreState}
-use Rattle.ob_seal.specs.KeySet.{KeySet}
 
 -- ---- what was written
 -- bytes that were cut by a fault of the one sink

@@ -1,22 +1,8 @@
 -- The headline, by what the run was reported to have done.
-use Rattle.ob_shell.specs.Running.{ServesAlone}
-use Rattle.std.proofs.Common.{◌≡◌, ℕ, Bool, true, List, ◌++◌, Ok, Err, refl, sym, ◌∙◌, ap, subst}
-use Rattle.std.proofs.lemmas.List.{append_cancel_left}
-use Rattle.ob_base.specs.declared.access.Access.{Access}
+use Rattle.ob_shell.proofs.Words.{Access, Answer, ap, append_cancel_left, BadKey, Base, Bool, Ending, EndsUntampered, Err, FromEach, Headline, IsHonest, KeySet, List, Ok, Outputs, Outside, Ran, refl, Report, ServesAlone, SinksRose, subst, sym, Tally, Traced, traced, true, Usage, ℕ, ◌++◌, ◌∙◌, ◌≡◌}
 use Rattle.ob_base.specs.declared.refusal.Stop.TheVariants.{Tampered, SourceFault, SinkFault, NoMemory, InputLimit, StoreFault, StashFull, KeeperFault}
-use Rattle.ob_gen.specs.declared.tally.Tally.{Tally}
-use Rattle.ob_headline.specs.Bases.{Base, FromEach}
-use Rattle.ob_headline.specs.Headline.{Headline}
-use Rattle.ob_headline.specs.Tracing.{traced}
-use Rattle.ob_headline.specs.Words.{Answer, IsHonest, Outside, SinksRose}
 use Rattle.ob_headline.specs.Status.{Because, EndsAtRead, StoreFails}
-use Rattle.ob_headline.specs.declared.ending.Ending.{Ending}
-use Rattle.ob_headline.specs.declared.ending.Ending.TheVariants.{Usage, BadKey, Ran}
-use Rattle.ob_headline.specs.declared.ending.Report.{Report}
-use Rattle.ob_print.specs.Cuts.{Outputs}
-use Rattle.ob_shell.specs.Top.{EndingFlag, EndingSays, EndingWords, EndsUntampered, Reported, StatusCause, sink_of}
-use Rattle.ob_shell.specs.Traces.{Traced}
-use Rattle.ob_seal.specs.KeySet.{KeySet}
+use Rattle.ob_shell.specs.Top.{EndingFlag, EndingSays, EndingWords, Reported, StatusCause, sink_of}
 
 -- why it ends so
 pub because : (base : Base) (ending : Ending) (Takes : Type 0) (max : ℕ) (taken : List ℕ) (ended : Bool) (more : List (List ℕ)) (answers : List Answer) (part : List ℕ) (old new : Outside)

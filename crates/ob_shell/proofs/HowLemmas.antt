@@ -1,25 +1,13 @@
 -- How the first of some statements is served where no call fails, and what is asked of them then.
-use Rattle.std.specs.Prelude.{◌&&◌, if◌then◌else◌, nat_lt, ⊤}
-use Rattle.std.proofs.Common.{◌≡◌, ◌+◌, ◌<◌, ℕ, Bool, true, false, List, [], ◌∷◌, ◌++◌, length, Option, None, Ok, Err, refl, sym, ◌∙◌, ap, subst, arith, append-nil, append_assoc}
-use Rattle.ob_base.specs.declared.access.Access.{Access}
-use Rattle.ob_base.specs.declared.config.Public.{Public}
-use Rattle.ob_base.specs.declared.seen.End.{End}
-use Rattle.ob_base.specs.declared.seen.End.TheVariants.{Static, Whole, AfterCount, Joined, Cut}
-use Rattle.ob_base.specs.declared.skeleton.Skeleton.{Skeleton}
+use Rattle.ob_shell.proofs.Words.{Access, after, ap, append-nil, append_assoc, arith, Bool, End, Err, false, Gathering, How, if◌then◌else◌, is_full_now, length, List, may_fly, met_script, nat_lt, None, Ok, Option, place_now, Public, refl, script, seen_or_cut, Session, Skeleton, skeleton, Spelt, Stmt, subst, sym, Table, true, Whole, ℕ, [], ⊤, ◌&&◌, ◌++◌, ◌+◌, ◌<◌, ◌∙◌, ◌∷◌, ◌≡◌}
 use Rattle.ob_base.specs.declared.skeleton.Skeleton.TheVariants as K
-use Rattle.ob_base.specs.declared.skeleton.Source.TheVariants.{Table as OneTable, Join}
-use Rattle.ob_base.specs.declared.schema.Table.{Table}
-use Rattle.ob_headline.proofs.FullLemmas.{met_script}
+use Rattle.ob_base.specs.declared.skeleton.Source.TheVariants.{Table as OneTable}
 use Rattle.ob_headline.specs.Disturbed.{Course, course_alone, course_now, entries_now, gathering, landed, meant_entries, meant_together}
-use Rattle.ob_headline.specs.Flights.{may_fly, place_now}
-use Rattle.ob_mean.specs.Batches.{Gathering, gathering_after, goes_into, is_unrefused}
-use Rattle.ob_mean.specs.Replay.{Alone, How, Session, Spelt, With, after, how_now, is_full_now, seen_now, seen_or_cut, served, served_full}
+use Rattle.ob_mean.specs.Batches.{gathering_after, goes_into, is_unrefused}
+use Rattle.ob_mean.specs.Replay.{Alone, With, how_now, seen_now, served, served_full}
 use Rattle.ob_script.specs.Flights.{Alone as One, Entry, trace_in}
-use Rattle.ob_script.specs.Script.{script}
 use Rattle.ob_script.specs.Tables.{tables_after, tables_then}
 use Rattle.ob_shell.proofs.SelectLemmas.{flown_gathers}
-use Rattle.ob_sql.specs.Skeleton.{skeleton}
-use Rattle.ob_sql.specs.declared.stmt.Stmt.{Stmt}
 
 -- from a session on, where this is gathered, and none waits to fly
 abbrev pub course_of : Session → Option Gathering → Course

@@ -1,43 +1,15 @@
 -- A run whose tables are kept, all but its last line.
-use Rattle.std.proofs.Common.{◌≡◌, ◌≤◌, ℕ, Bool, true, false, List, [], ◌++◌, Option, Some, Result, Ok, Err, refl, sym, ◌∙◌, ap, subst, arith}
-use Rattle.ob_base.specs.Publics.{first_public}
-use Rattle.ob_base.specs.Counts.{Rises}
-use Rattle.ob_base.specs.declared.config.Config.{Config}
-use Rattle.ob_base.specs.declared.refusal.Stop.{Stop}
+use Rattle.ob_shell.proofs.Words.{ap, arith, BadKey, Base, Bool, Config, empty_tally, Engine, Err, false, Faults, faults_of, Fetch, first_public, FirstLine, Flights, flights_at, FlightSettings, flying, Halt, has_refused, high_of, IsFedBy, IsFresh, KeeperState, KeptEnded, KeyRead, keys_in, keys_of, limit_of, List, machine_of, Ok, Option, OutFailed, outside_of, Plain, Public, public_of, Ran, refl, Result, RevState, Rises, rows_of, ServesAlone, SessionRan, Silenced, Some, Stop, StopCause, StoreState, subst, sym, Tally, Traced, true, ℕ, [], ◌++◌, ◌∙◌, ◌≡◌, ◌≤◌}
 use Rattle.ob_base.specs.declared.refusal.Stop.TheVariants.{SourceFault}
-use Rattle.ob_base.specs.declared.config.Public.{Public}
-use Rattle.ob_tables.specs.Agreeing.{high_of, public_of, rows_of}
-use Rattle.ob_tables.specs.declared.engine.Engine.{Engine}
-use Rattle.ob_gen.specs.Tally.{empty_tally}
-use Rattle.ob_gen.specs.declared.tally.Tally.{Tally}
-use Rattle.ob_headline.specs.Bases.{Base, flying}
 use Rattle.ob_headline.specs.KeyLine.{after_line, first_line, secret_of}
-use Rattle.ob_headline.specs.Settings.{limit_of}
-use Rattle.ob_headline.specs.Words.{Faults, faults_of, keys_in, keys_with, outside_of}
-use Rattle.ob_headline.specs.declared.ending.Ending.TheVariants.{BadKey, Ran}
-use Rattle.ob_headline.specs.declared.ending.KeptEnding.TheVariants.{Plain}
-use Rattle.ob_reopen.specs.Keepers.{KeeperState}
-use Rattle.ob_seal.specs.Sealed.{keys_of}
+use Rattle.ob_headline.specs.Words.{keys_with}
 use Rattle.ob_shell.proofs.CountLemmas.{same_cause}
 use Rattle.ob_shell.proofs.SessionLemmas.{closed_behind, ran_after}
 use Rattle.ob_shell.proofs.TopLemmas.{piece_is, piece_prompt, piece_within, shown_bad_key, shown_by, shown_source_fault}
 use Rattle.ob_shell.specs.Engaging.{ClosedRun, ClosesRun, EndsUnserved, Engages, RanBegun, RanStopped, RanUnbegun, RanUnkeyed, RanWhole, ServesAll, StartsRun, StopsRun}
-use Rattle.ob_shell.specs.Feeding.{Fetch, IsFedBy}
-use Rattle.ob_shell.specs.LineRead.{KeyRead}
-use Rattle.ob_shell.specs.Running.{OutFailed, ServesAlone, SessionRan, Silenced, StopCause}
 use Rattle.ob_shell.proofs.StandLemmas.{stands_flying}
-use Rattle.ob_headline.specs.declared.flight.FlightSettings.{FlightSettings}
-use Rattle.ob_shell.specs.Flying.{flights_at}
-use Rattle.ob_shell.specs.Steps.{Flights, machine_of}
-use Rattle.ob_shell.specs.Tallies.{has_refused}
-use Rattle.ob_shell.specs.Top.{Carried, IsFresh, RanAfter, sink_of}
-use Rattle.ob_shell.specs.Traces.{Traced}
-use Rattle.ob_shell.specs.declared.feed.Halt.{Halt}
-use Rattle.ob_shell.specs.declared.keeping.KeptEnded.{KeptEnded}
-use Rattle.ob_shell.specs.declared.key.FirstLine.{FirstLine}
+use Rattle.ob_shell.specs.Top.{Carried, RanAfter, sink_of}
 use Rattle.ob_shell.specs.declared.key.FirstLine.TheVariants.{Bad}
-use Rattle.ob_store.specs.State.{StoreState}
-use Rattle.ob_vault.specs.State.{RevState}
 
 -- ---- texts were served
 never_saves : (b : Bool) → (b ≡ true → ⊥) → b ≡ false

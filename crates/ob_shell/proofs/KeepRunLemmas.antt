@@ -1,27 +1,11 @@
 -- A run whose tables are kept, behind its first line.
-use Rattle.std.proofs.Common.{◌≡◌, ◌≤◌, ℕ, Bool, List, [], Option, Some, Ok, inl, inr, refl}
-use Rattle.ob_base.specs.declared.config.Config.{Config}
-use Rattle.ob_tables.specs.Agreeing.{high_of, rows_of}
-use Rattle.ob_tables.specs.declared.engine.Engine.{Engine}
-use Rattle.ob_gen.specs.Tally.{empty_tally}
-use Rattle.ob_headline.specs.Settings.{limit_of}
-use Rattle.ob_headline.specs.Words.{Faults, outside_of}
-use Rattle.ob_reopen.specs.Keepers.{KeeperState}
+use Rattle.ob_shell.proofs.Words.{Bool, Config, empty_tally, Engine, Faults, Fetch, flights_at, FlightSettings, flying, high_of, inl, inr, IsFedBy, KeeperState, KeptEnded, KeyRead, limit_of, List, Ok, Option, outside_of, refl, RevState, rows_of, Some, StoreState, told_nothing, ℕ, [], ◌≡◌, ◌≤◌}
 use Rattle.ob_shell.proofs.KeepLemmas.{ran_stopped, ran_whole, serves_all}
 use Rattle.ob_shell.proofs.SessionLemmas.{ran_after, ran_last}
 use Rattle.ob_shell.proofs.TopLemmas.{after_last, after_secret}
 use Rattle.ob_shell.proofs.TraceLemmas.{traced_none, traced_whole}
 use Rattle.ob_shell.specs.Engaging.{ClosesRun, RanKept, ServesRun, StartsRun}
-use Rattle.ob_shell.specs.Feeding.{Fetch, IsFedBy}
-use Rattle.ob_shell.specs.LineRead.{KeyRead}
-use Rattle.ob_headline.specs.Bases.{flying}
-use Rattle.ob_headline.specs.declared.flight.FlightSettings.{FlightSettings}
-use Rattle.ob_shell.specs.Flying.{flights_at}
-use Rattle.ob_shell.specs.Steps.{told_nothing}
-use Rattle.ob_shell.specs.declared.keeping.KeptEnded.{KeptEnded}
 use Rattle.ob_shell.specs.declared.key.FirstLine.TheVariants.{Secret, Last}
-use Rattle.ob_store.specs.State.{StoreState}
-use Rattle.ob_vault.specs.State.{RevState}
 
 module _ {R : Type 0} (state : R → RevState) (config : Config) (flight : Option FlightSettings) (key : List ℕ) (tracing : Bool) (f0 f1 : Fetch) (none : f0.unread ≡ []) (start : f0.taken ≡ 0) (top : f0.limit ≡ limit_of (Some config)) (l0 l1 : Option (List ℕ)) (g0 gave : ℕ)
     (e : Engine R) (s0 s1 s2 : StoreState) (t0 t1 t2 w : Option (List ℕ)) (old : Faults) (r1 : ℕ) (k0 k1 k2 : KeeperState) (starts : StartsRun state config key tracing e s0 s1 t0 t1 old.trace r1 k0 k1) (ended : KeptEnded) where

@@ -1,29 +1,10 @@
 -- A run whose tables are kept over the generated text, and one whose words are not read.
-use Rattle.std.specs.Prelude.{◌≢◌}
-use Rattle.std.proofs.Common.{◌≡◌, ◌≤◌, ℕ, Bool, true, false, List, [], Option, Some, None, Result, Ok, Err, inl, inr, refl, sym, subst, arith}
-use Rattle.std.specs.Io.KnownBytes.{Appends}
-use Rattle.ob_headline.specs.declared.flight.FlightSettings.{FlightSettings}
-use Rattle.ob_base.specs.Counts.{Rises}
-use Rattle.ob_base.specs.declared.access.Access.{Access}
-use Rattle.ob_base.specs.declared.config.Config.{Config}
-use Rattle.ob_base.specs.declared.refusal.Stop.{Stop}
+use Rattle.ob_shell.proofs.Words.{Access, Answer, Appends, arith, BadKey, Bool, Config, empty_tally, Err, false, Faults, faults_of, FlightSettings, flying, fresh, inl, inr, IsFresh, KeeperState, KeptEnded, KeptEnding, KeptTally, keys_in, last_line, LineWritten, List, None, Ok, Option, Outputs, Outputs-whole, Outside, outside_of, Plain, Ran, refl, refused_by, Report, Result, Rises, Seed, SinksRose, Some, status_of, Stop, StopCause, StoreState, subst, sym, Tally, true, Usage, WordsErr, ℕ, [], ◌≡◌, ◌≢◌, ◌≤◌}
 use Rattle.ob_gen.specs.Generated.{generated}
-use Rattle.ob_gen.specs.Tally.{empty_tally}
-use Rattle.ob_gen.specs.declared.tally.Tally.{Tally}
 use Rattle.ob_headline.proofs.StopLemmas.{begun_stops}
-use Rattle.ob_headline.specs.Bases.{flying, fresh}
-use Rattle.ob_headline.specs.Endings.{last_line, status_of}
 use Rattle.ob_headline.specs.Keeping.{kept_line, kept_status}
 use Rattle.ob_headline.specs.KeptHeadline.{EndsUnkeyed, KeptHeadline, Unkeyed}
-use Rattle.ob_headline.specs.Words.{Answer, Faults, Outside, SinksRose, faults_of, keys_in, outside_of}
-use Rattle.ob_headline.specs.declared.ending.Ending.TheVariants.{Usage, BadKey, Ran}
-use Rattle.ob_headline.specs.declared.ending.KeptEnding.{KeptEnding}
-use Rattle.ob_headline.specs.declared.ending.KeptEnding.TheVariants.{Plain, OtherPack, OtherKey, Saved, NoMark, NotClosed as LeftOpen, KeeperFault, StoreFault}
-use Rattle.ob_headline.specs.declared.ending.Report.{Report}
-use Rattle.ob_headline.specs.declared.seed.Seed.{Seed}
-use Rattle.ob_print.proofs.CutLemmas.{Outputs-whole}
-use Rattle.ob_print.specs.Cuts.{Outputs}
-use Rattle.ob_reopen.specs.Keepers.{KeeperState}
+use Rattle.ob_headline.specs.declared.ending.KeptEnding.TheVariants.{OtherPack, OtherKey, Saved, NoMark, NotClosed as LeftOpen, KeeperFault, StoreFault}
 use Rattle.ob_shell.proofs.CloseLemmas.{reported_words, words_cause, words_end, words_none, words_shown}
 use Rattle.ob_shell.proofs.CompleteLemmas.{reported_line}
 use Rattle.ob_shell.proofs.CountLemmas.{silenced_kept, silenced_rose}
@@ -32,15 +13,10 @@ use Rattle.ob_shell.proofs.HeadLemmas.{headlined}
 use Rattle.ob_shell.proofs.KeptLemmas.{HeadTold, ends_whole, kept_headed}
 use Rattle.ob_shell.proofs.TopLemmas.{shown_line}
 use Rattle.ob_shell.proofs.TraceLemmas.{traced_none, traced_whole}
-use Rattle.ob_shell.specs.Closed.{LineWritten, refused_by}
 use Rattle.ob_shell.specs.Engaging.{IsHushed, KeptClosedBy, KeptConcludedBy, KeptGenerated, RanKept}
-use Rattle.ob_shell.specs.KeptSummary.{KeptConcludes, KeptStatusIs, KeptSummarized, KeptTally, MayKeep, SummarizedBy, kept_conclusion}
-use Rattle.ob_shell.specs.Running.{StopCause}
-use Rattle.ob_shell.specs.Top.{IsFresh, Reported, RunShown, sink_of}
-use Rattle.ob_shell.specs.declared.keeping.KeptEnded.{KeptEnded}
-use Rattle.ob_words.specs.declared.words.WordsErr.{WordsErr}
+use Rattle.ob_shell.specs.KeptSummary.{KeptConcludes, KeptStatusIs, KeptSummarized, MayKeep, SummarizedBy, kept_conclusion}
+use Rattle.ob_shell.specs.Top.{Reported, RunShown, sink_of}
 use Rattle.ob_words.specs.declared.words.WordsErr.TheVariants as Words
-use Rattle.ob_store.specs.State.{StoreState}
 
 -- ---- what was written
 module _ (tally : Tally) (asked : List Access) (w0 w1 : Option (List ℕ)) (source trace0 trace1 out0 out1 : ℕ) (report : Report) where

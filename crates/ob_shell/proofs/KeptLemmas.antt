@@ -1,33 +1,10 @@
 -- The headline of a run whose tables are kept, by what was done until its last line.
-use Rattle.std.proofs.Common.{◌≡◌, ◌≢◌, ℕ, Bool, true, false, List, [], Option, Some, Result, Ok, Err, inl, inr, refl, sym, ◌∙◌, ap, subst, arith}
-use Rattle.std.proofs.KnownBytes.{Appends-nil}
-use Rattle.ob_headline.specs.declared.flight.FlightSettings.{FlightSettings}
-use Rattle.ob_base.specs.Counts.{Rises}
-use Rattle.ob_base.specs.declared.config.Config.{Config}
+use Rattle.ob_shell.proofs.Words.{Answer, ap, Appends-nil, arith, Base, Bool, CloseErr, Config, Ending, EndingTally, Err, false, Faults, FlightSettings, flying, fresh, has_refused, Headline, inl, inr, KeeperState, KeptEnded, KeptEnding, KeptTally, keys_in, keys_of, KeySet, LineWritten, List, Mark, Ok, Option, OutFailed, Outputs, Outputs-whole, Outside, outside_of, Plain, Ran, refl, Report, Result, Rises, ServesAlone, Silenced, SinksRose, Some, status_of, Stop, StoreState, Story, subst, sym, Tally, Traced, true, Unwritten, ℕ, [], ◌∙◌, ◌≡◌, ◌≢◌}
 use Rattle.ob_base.specs.declared.fault.Failed.{Failed}
-use Rattle.ob_reopen.specs.declared.mark.Mark.{Mark}
-use Rattle.ob_gen.specs.declared.tally.Tally.{Tally}
 use Rattle.ob_headline.proofs.StopLemmas.{closing_stops, begun_stops}
-use Rattle.ob_base.specs.declared.refusal.Stop.{Stop}
-use Rattle.ob_headline.specs.Bases.{Base, flying, fresh}
-use Rattle.ob_headline.specs.Endings.{status_of}
-use Rattle.ob_headline.specs.Headline.{Headline}
 use Rattle.ob_headline.specs.Keeping.{kept_line, kept_status, EndsWith, handed_end}
 use Rattle.ob_headline.specs.KeptHeadline.{EndsBehind, EndsUnkeyed, KeptHeadline, Unkeyed, begun_at}
 use Rattle.ob_headline.specs.KeyLine.{first_line, secret_of}
-use Rattle.ob_headline.specs.Story.{Story}
-use Rattle.ob_headline.specs.Words.{Faults, Outside, SinksRose, keys_in, outside_of, Answer}
-use Rattle.ob_headline.specs.declared.ending.Ending.{Ending}
-use Rattle.ob_headline.specs.declared.ending.Ending.TheVariants.{Ran, Usage, BadKey}
-use Rattle.ob_headline.specs.declared.ending.KeptEnding.{KeptEnding}
-use Rattle.ob_headline.specs.declared.ending.KeptEnding.TheVariants.{Plain, OtherPack, Saved, NoMark, NotClosed as LeftOpen, KeeperFault, StoreFault}
-use Rattle.ob_headline.specs.declared.ending.Report.{Report}
-use Rattle.ob_print.proofs.CutLemmas.{Outputs-whole}
-use Rattle.ob_print.specs.Cuts.{Outputs}
-use Rattle.ob_reopen.specs.Keepers.{KeeperState}
-use Rattle.ob_reopen.specs.declared.fault.CloseErr.{CloseErr}
-use Rattle.ob_seal.specs.KeySet.{KeySet}
-use Rattle.ob_seal.specs.Sealed.{keys_of}
 use Rattle.ob_shell.proofs.CloseLemmas.{words_taken}
 use Rattle.ob_shell.proofs.CompleteLemmas.{reported_line, reported_quiet}
 use Rattle.ob_shell.proofs.CountLemmas.{silenced_kept, silenced_rose}
@@ -35,15 +12,8 @@ use Rattle.ob_shell.proofs.GeneratingLemmas.{cut_rose, nothing_written, traced_b
 use Rattle.ob_shell.proofs.HeadLemmas.{headlined}
 use Rattle.ob_shell.proofs.TopLemmas.{shown_line, takes_of, cause_alone}
 use Rattle.ob_shell.proofs.TraceLemmas.{traced_none, traced_whole}
-use Rattle.ob_shell.specs.Closed.{LineWritten, Unwritten}
 use Rattle.ob_shell.specs.Engaging.{RanKept, RanStopped, RanUnbegun, RanUnkeyed, RanWhole}
-use Rattle.ob_shell.specs.KeptSummary.{KeptTally}
-use Rattle.ob_shell.specs.Running.{OutFailed, ServesAlone, Silenced}
-use Rattle.ob_shell.specs.Tallies.{has_refused}
-use Rattle.ob_shell.specs.Top.{EndingCause, EndingWords, Reported, RunShown, sink_of, EndingTally}
-use Rattle.ob_shell.specs.Traces.{Traced}
-use Rattle.ob_shell.specs.declared.keeping.KeptEnded.{KeptEnded}
-use Rattle.ob_store.specs.State.{StoreState}
+use Rattle.ob_shell.specs.Top.{EndingCause, EndingWords, Reported, RunShown, sink_of}
 
 -- what lies outside once the last line was written
 abbrev pub with_line : Outside → (written : Option (List ℕ)) → (out : ℕ) → Outside

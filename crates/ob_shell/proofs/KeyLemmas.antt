@@ -1,16 +1,15 @@
 -- The first line among the bytes that were taken.
-use Rattle.std.proofs.Common.{◌≡◌, ℕ, ◌+◌, ◌<◌, ◌≤◌, ◌||◌, ◌==◌, Bool, true, false, List, [], ◌∷◌, ◌++◌, length, take, set, Option, Some, None, Ok, Err, refl, sym, ap, ◌∙◌, subst, inl, inr, arith, append_assoc, append-nil, length-append, add-one}
+use Rattle.ob_shell.proofs.Words.{ap, append-nil, append_assoc, arith, Bool, Err, false, Fed, Fetch, Halt, inl, inr, IsAtEnd, KeyRead, length, length-append, List, None, Ok, Option, refl, Some, subst, sym, take, true, ℕ, [], ◌++◌, ◌+◌, ◌<◌, ◌||◌, ◌∙◌, ◌∷◌, ◌≡◌, ◌≤◌}
+use Rattle.std.proofs.Common.{◌==◌, set, add-one}
 use Rattle.std.proofs.Math.Seq.{take-suc-set}
 use Rattle.std.proofs.lemmas.Grind.{common_steps}
-use Rattle.std.specs.Io.KnownBytes.{IsAtEnd}
 use Rattle.std.specs.Result.{result_ok}
 use Rattle.hex.specs.Hex.{decode_sized}
 use Rattle.ob_headline.proofs.PromptLemmas.{length-after_line}
 use Rattle.ob_headline.specs.KeyLine.{line_max, has_lf, first_line, after_line, without_cr, secret_of}
 use Rattle.ob_shell.proofs.FeedLemmas.{Fed-then}
-use Rattle.ob_shell.specs.Feeding.{Fetch, FetchCause, Fed}
-use Rattle.ob_shell.specs.LineRead.{KeyEnds, KeyRead, line_before_more, line_at_end}
-use Rattle.ob_shell.specs.declared.feed.Halt.{Halt}
+use Rattle.ob_shell.specs.Feeding.{FetchCause}
+use Rattle.ob_shell.specs.LineRead.{KeyEnds, line_before_more, line_at_end}
 use Rattle.ob_shell.specs.declared.feed.Halt.TheVariants.{SourceFault, InputLimit}
 use Rattle.ob_shell.specs.declared.key.FirstLine.TheVariants.{Bad}
 

@@ -1,20 +1,10 @@
 -- What lasts while texts are served: the pack, the rows that may be open, and that no block lies in clear.
-use Rattle.std.proofs.Common.{◌≡◌, ◌≤◌, ℕ, Bool, true, IsTrue, List, None, Result, inl, inr, sym, ◌∙◌, ap, subst, arith}
-use Rattle.ob_base.specs.declared.config.Config.{Config}
-use Rattle.ob_base.specs.declared.config.Public.{Public}
-use Rattle.ob_base.specs.declared.refusal.Stop.{Stop}
-use Rattle.ob_tables.specs.Agreeing.{public_of, rows_of, world_of}
+use Rattle.ob_shell.proofs.Words.{Answer, ap, arith, at_rest, Bool, Config, Engine, inl, inr, IsTrue, LastPart, List, Machine, more_together, None, one_more, Public, public_of, Result, RevState, rows_of, Step, Steps, StepTogether, Stop, StoreState, subst, sym, true, world_of, ℕ, ◌∙◌, ◌≡◌, ◌≤◌}
 use Rattle.ob_reopen.specs.Resting.{AcceptsClosings}
 use Rattle.ob_select.specs.Selecting.{AcceptsRows}
-use Rattle.ob_tables.specs.declared.engine.Engine.{Engine}
-use Rattle.ob_headline.specs.Words.{Answer}
 use Rattle.ob_shell.proofs.LaterLemmas.{step_later}
 use Rattle.ob_shell.proofs.ReplayLemmas.{step_goes}
 use Rattle.ob_shell.proofs.StepLemmas.{last_by}
-use Rattle.ob_shell.specs.Running.{LastPart}
-use Rattle.ob_shell.specs.Steps.{Machine, Step, StepTogether, Steps, at_rest, more_together, one_more}
-use Rattle.ob_store.specs.State.{StoreState}
-use Rattle.ob_vault.specs.State.{RevState}
 use Rattle.ob_vault.specs.Tied.{AllSealed, Scope, next_fault}
 
 -- the rows of a block, those that may be open, and whether tables are saved, are as these settings say

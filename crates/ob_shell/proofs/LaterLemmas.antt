@@ -1,13 +1,7 @@
 -- What lasts of a store while texts are served.
-use Rattle.std.proofs.Common.{◌≡◌, ℕ, Bool, List, Result, inl, inr, sym, subst}
-use Rattle.ob_base.specs.declared.refusal.Stop.{Stop}
-use Rattle.ob_headline.specs.Words.{Answer}
+use Rattle.ob_shell.proofs.Words.{Answer, at_rest, Bool, inl, inr, LastPart, List, Machine, more_together, one_more, Result, RevState, Since, Step, Steps, Stop, subst, sym, ℕ, ◌≡◌}
 use Rattle.ob_shell.proofs.StepLemmas.{last_by}
-use Rattle.ob_shell.specs.Running.{LastPart}
-use Rattle.ob_shell.specs.Steps.{Machine, Step, Steps, at_rest, more_together, one_more}
 use Rattle.ob_store.proofs.Steps.{since_refl, since_trans}
-use Rattle.ob_store.specs.Runs.{Since}
-use Rattle.ob_vault.specs.State.{RevState}
 
 module _ {R : Type 0} (state : R → RevState) where
   same : (m0 m1 : Machine R) → m1 ≡ m0 → Since m0.store m1.store

@@ -1,30 +1,19 @@
 -- The leaves that statements read are those of draws, of which none is read twice.
-use Rattle.std.specs.Prelude.{IfSome, slice_get, slice_index_or}
-use Rattle.std.specs.List.{All, AllPairs}
-use Rattle.std.specs.Option.{option_map}
-use Rattle.std.proofs.Common.{◌≡◌, ◌≢◌, ◌<◌, ℕ, zero, suc, false, List, [], ◌∷◌, length, Option, Some, None, Result, refl, sym, ◌∙◌, ap, subst, arith}
-use Rattle.std.proofs.lemmas.List.Elements.{All-cons, All-nil, All-weaker}
+use Rattle.ob_shell.proofs.Words.{All, All-cons, All-nil, All-weaker, ap, AreDraws, arith, asked_of, Does, Draws, false, Given, Index, indexes_of, length, List, Machine, None, Option, option_map, Outcome, public_of, refl, Result, RevState, RunStop, Seat, seen_of, skeleton, slice_get, Some, Stmt, subst, suc, sym, World, zero, ℕ, [], ◌<◌, ◌∙◌, ◌∷◌, ◌≡◌, ◌≢◌}
+use Rattle.std.specs.Prelude.{IfSome, slice_index_or}
+use Rattle.std.specs.List.{AllPairs}
 use Rattle.std.proofs.lemmas.List.Kept.{AllPairs-cons}
 use Rattle.std.proofs.lemmas.Option.{slice_get-get_or}
 use Rattle.ob_base.specs.Indexes.{leaf_of_draw}
-use Rattle.ob_exec.proofs.LeavesRead.{Given, KeyAt, Onwards, ReadsUnread, Unread, behind, none_given, reads_unread}
-use Rattle.ob_tables.specs.Agreeing.{AreDraws, indexes_of, public_of, seen_of}
+use Rattle.ob_exec.proofs.LeavesRead.{KeyAt, Onwards, ReadsUnread, Unread, behind, none_given, reads_unread}
 use Rattle.ob_tables.specs.Engines.{AreTables}
-use Rattle.ob_tables.specs.declared.stop.RunStop.{RunStop}
-use Rattle.ob_headline.specs.Flights.{Seat, seat_alone}
+use Rattle.ob_headline.specs.Flights.{seat_alone}
 use Rattle.ob_headline.specs.FullStash.{HasDrawnLeaves}
 use Rattle.ob_headline.specs.Leaves.{AreDrawn, IsDrawn}
 use Rattle.ob_mean.specs.Lawful.{height_at}
 use Rattle.ob_mean.specs.Replay.{draws_taken}
-use Rattle.ob_mean.specs.Verdict.{Draws}
-use Rattle.ob_oram.specs.declared.index.Index.{Index}
 use Rattle.ob_oram.specs.Indexes.{leaves_of}
 use Rattle.ob_script.specs.Trace.{Served}
-use Rattle.ob_shell.specs.Steps.{Does, Machine, asked_of}
-use Rattle.ob_sql.specs.Skeleton.{skeleton}
-use Rattle.ob_sql.specs.declared.stmt.Stmt.{Stmt}
-use Rattle.ob_vault.specs.State.{RevState, World}
-use Rattle.ob_verdict.specs.declared.outcome.Outcome.{Outcome}
 
 -- statements read leaves of draws, none twice, of which none was read before
 pub record Reads (d : Draws) (indexes : List Index) (g : Given d indexes) (seats : List Seat) (seen : List Served) : Type 0 where

@@ -1,21 +1,11 @@
 -- The keeper's count of faults rises exactly where a session ends for that.
-use Rattle.std.proofs.Common.{◌≡◌, inl, inr, ℕ, Bool, List, [], ◌∷◌, Result, Ok, Err, refl, sym, ◌∙◌, ap, subst}
-use Rattle.ob_base.specs.Counts.{Rises}
-use Rattle.ob_base.specs.declared.refusal.Stop.{Stop}
+use Rattle.ob_shell.proofs.Words.{Answer, ap, at_rest, Bool, Err, inl, inr, KeeperState, LastPart, List, Machine, more_together, Ok, one_more, PartlyAt, Ran, refl, Result, RevState, Rises, RunStop, session_stop, Step, Steps, Stop, subst, sym, World, ℕ, [], ◌∙◌, ◌∷◌, ◌≡◌}
 use Rattle.ob_base.specs.declared.refusal.Stop.TheVariants as Stops
 use Rattle.ob_exec.specs.Ran.{CountsKeeper as CountsRun}
 use Rattle.ob_exec.specs.RanFlight.{FlightCause}
 use Rattle.ob_headline.specs.SavedHeadline.{CountsKeeper}
-use Rattle.ob_headline.specs.Words.{Answer}
-use Rattle.ob_headline.specs.declared.ending.Ending.TheVariants.{Ran}
-use Rattle.ob_reopen.specs.Keepers.{KeeperState}
 use Rattle.ob_shell.proofs.StepLemmas.{by_last}
-use Rattle.ob_shell.specs.Running.{LastPart}
-use Rattle.ob_shell.specs.Steps.{Machine, PartlyAt, Step, Steps, at_rest, more_together, one_more}
-use Rattle.ob_tables.specs.Stops.{session_stop}
-use Rattle.ob_tables.specs.declared.stop.RunStop.{RunStop}
-use Rattle.ob_tables.specs.declared.stop.RunStop.TheVariants.{KeeperFault, NoMemory, SinkFault, StashFull, StoreFault, Tampered}
-use Rattle.ob_vault.specs.State.{RevState, World}
+use Rattle.ob_tables.specs.declared.stop.RunStop.TheVariants.{KeeperFault, NoMemory, SinkFault, Tampered}
 
 -- a stop is that of the session
 stop_counts : (run : RunStop) (old new : KeeperState) → CountsRun (Err run) old new → CountsKeeper (Ran (Err (session_stop run))) old new

@@ -1,28 +1,12 @@
 -- What a session leaves whose tables are saved: the mark that is held, and the tables that rest for it.
-use Rattle.std.specs.Prelude.{◌≢◌, drop, if◌then◌else◌, map, take}
-use Rattle.std.proofs.Common.{◌≡◌, inl, inr, ◌⊎◌, ◌<◌, ◌+◌, ℕ, Bool, true, false, IsTrue, List, [], ◌∷◌, ◌++◌, length, Option, Some, None, Ok, Err, refl, sym, ◌∙◌, ap, subst, arith}
-use Rattle.std.proofs.lemmas.List.{length-append, length-map, take-append-drop}
-use Rattle.ob_base.specs.declared.config.Public.{Public}
-use Rattle.ob_reopen.specs.declared.mark.Mark.{Mark}
+use Rattle.ob_shell.proofs.Words.{after, AllInsert, Answer, ap, AreByRegion, AreDraws, arith, asked_of, Base, batch_most, BeginsToSave, Bool, Draws, drop, Ending, Err, false, first_draws, FromEach, How, if◌then◌else◌, inl, inr, is_full_now, IsHonest, IsTrue, KeeperState, KeySet, length, length-append, length-map, List, Machine, map, Mark, None, Ok, Option, Outcome, pair_of, Public, public_of, Ran, refl, Represents, RestsAlike, RestsOn, RevState, Seat, Seen, Session, session_of, settle_all, skeleton, Some, SpellFirst, Spelt, standing, statements, statements_of, Stmt, Story, subst, sym, Tables, take, take-append-drop, true, ℕ, [], ◌++◌, ◌+◌, ◌<◌, ◌∙◌, ◌∷◌, ◌≡◌, ◌≢◌, ◌⊎◌}
 use Rattle.ob_base.specs.declared.refusal.Stop.TheVariants as Stops
-use Rattle.ob_base.specs.declared.seen.Seen.{Seen}
 use Rattle.ob_headline.proofs.EffectLemmas.{left_refused, left_served}
-use Rattle.ob_headline.specs.Bases.{Base, FromEach, HoldsFrom, Opened, drawing, session_at}
-use Rattle.ob_headline.specs.Batches.{AllInsert}
-use Rattle.ob_headline.specs.Flights.{Seat, at_seat, seats as seats_from, seats_of, words_of}
+use Rattle.ob_headline.specs.Bases.{HoldsFrom, Opened, drawing, session_at}
+use Rattle.ob_headline.specs.Flights.{at_seat, seats as seats_from, seats_of, words_of}
 use Rattle.ob_headline.specs.Meaning.{AnswersFrom, session_after}
 use Rattle.ob_headline.specs.SavedHeadline.{LeavesSaved, MayTake, MayTakeMore, RestsBehind, left_by}
-use Rattle.ob_headline.specs.Saving.{RestsAlike}
-use Rattle.ob_headline.specs.Statements.{SpellFirst, statements}
-use Rattle.ob_headline.specs.Story.{Story}
-use Rattle.ob_headline.specs.Words.{Answer, IsHonest}
-use Rattle.ob_headline.specs.declared.ending.Ending.{Ending}
-use Rattle.ob_headline.specs.declared.ending.Ending.TheVariants.{Ran}
-use Rattle.ob_mean.specs.Batches.{batch_most, settle_all}
-use Rattle.ob_mean.specs.Replay.{Broken, How, Session, Spelt, after, draws_taken, head_of, is_full_now, rest_of}
-use Rattle.ob_mean.specs.Verdict.{Draws, Tables}
-use Rattle.ob_reopen.specs.Keepers.{KeeperState}
-use Rattle.ob_seal.specs.KeySet.{KeySet, pair_of}
+use Rattle.ob_mean.specs.Replay.{Broken, draws_taken, head_of, rest_of}
 use Rattle.ob_shell.proofs.FlightFacts.{drop_more}
 use Rattle.ob_shell.proofs.FlightLeaves.{left_first}
 use Rattle.ob_shell.proofs.LeavePath.{Along, BeginsSeats, EndsAlong, HaveFlown, HaveLanded, IsLast, IsSeatOf, IsStopped, IsWith, Path, StandsSo, aloft_along, aloft_so, answered_along, answered_so, ended_along, ends_so, over_along, over_so, passed_along, passed_so, together_along, together_so}
@@ -30,14 +14,7 @@ use Rattle.ob_shell.proofs.LeaveSteps.{HoldsMark, Saves, mark_answered, mark_sti
 use Rattle.ob_shell.proofs.LeaveTables.{Resting, last_answered, last_stopped, none_earlier, rests_then}
 use Rattle.ob_shell.proofs.ReplayLemmas.{free_holds, holds_free}
 use Rattle.ob_shell.proofs.WalkEntries.{seats_at}
-use Rattle.ob_shell.specs.Leaving.{AreByRegion, BeginsToSave, RestsOn}
-use Rattle.ob_shell.specs.Steps.{GoTogether, Holds, Machine, Owed, StaysAs, TakesOwed, asked_of, draws_behind, has_failed, session_of, standing, statements_of, tables_behind}
-use Rattle.ob_sql.specs.Skeleton.{skeleton}
-use Rattle.ob_sql.specs.declared.stmt.Stmt.{Stmt}
-use Rattle.ob_tables.specs.Agreeing.{AreDraws, first_draws, public_of}
-use Rattle.ob_tables.specs.Telling.{Represents}
-use Rattle.ob_vault.specs.State.{RevState}
-use Rattle.ob_verdict.specs.declared.outcome.Outcome.{Outcome}
+use Rattle.ob_shell.specs.Steps.{GoTogether, Holds, Owed, StaysAs, TakesOwed, draws_behind, has_failed, tables_behind}
 
 -- ---- along the statements
 module _ {R : Type 0} (state : R → RevState) (ending : Ending) (m2 : Machine R) where

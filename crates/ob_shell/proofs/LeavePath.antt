@@ -1,24 +1,10 @@
 -- The machines along the statements that were answered, and the one begun.
-use Rattle.std.specs.Prelude.{◌≡◌, ◌⊎◌, ◌<◌, ◌≤◌, ◌++◌, ⊤, ℕ, false, drop, length, map, List, [], ◌∷◌, Option, None, Ok, Err}
+use Rattle.ob_shell.proofs.Words.{after, Agrees, Answer, AreDraws, asked_of, by_fault, Does, Draws, drop, Ending, engine_keys, engine_start, Err, false, How, is_fault, is_full_now, length, List, Machine, map, None, Ok, Option, Outcome, public_of, Ran, RevState, RunStop, Seat, seen_of, seen_or_cut, Session, session_of, session_stop, Since, Spelt, Stmt, Tables, ℕ, [], ⊤, ◌++◌, ◌<◌, ◌∷◌, ◌≡◌, ◌≤◌, ◌⊎◌}
 use Rattle.ob_base.specs.declared.refusal.Stop.TheVariants.{SinkFault}
-use Rattle.ob_headline.specs.Flights.{Seat}
 use Rattle.ob_headline.specs.SavedHeadline.{left_by}
-use Rattle.ob_headline.specs.Words.{Answer}
-use Rattle.ob_headline.specs.declared.ending.Ending.{Ending}
-use Rattle.ob_headline.specs.declared.ending.Ending.TheVariants.{Ran}
-use Rattle.ob_mean.specs.Replay.{Broken, How, Session, Spelt, after, head_of, is_full_now, rest_of, seen_or_cut}
-use Rattle.ob_mean.specs.Verdict.{Draws, Tables}
-use Rattle.ob_shell.specs.Steps.{Does, GoTogether, Holds, Machine, Owes, StaysAs, TakesOwed, asked_of, has_failed, session_of, tables_behind}
-use Rattle.ob_sql.specs.declared.stmt.Stmt.{Stmt}
-use Rattle.ob_store.specs.Runs.{Since}
-use Rattle.ob_tables.specs.Agreeing.{Agrees, AreDraws, engine_keys, engine_start, public_of, seen_of}
-use Rattle.ob_tables.specs.Running.{is_fault}
-use Rattle.ob_tables.specs.Stops.{session_stop}
+use Rattle.ob_mean.specs.Replay.{Broken, head_of, rest_of}
+use Rattle.ob_shell.specs.Steps.{GoTogether, Holds, Owes, StaysAs, TakesOwed, has_failed, tables_behind}
 use Rattle.ob_tables.specs.Telling.{ReadsTrue}
-use Rattle.ob_tables.specs.declared.stop.RunStop.{RunStop}
-use Rattle.ob_vault.specs.State.{RevState}
-use Rattle.ob_verdict.specs.Outcomes.{by_fault}
-use Rattle.ob_verdict.specs.declared.outcome.Outcome.{Outcome}
 
 module _ {R : Type 0} (state : R → RevState) where
   -- a statement was answered, and maybe others were carried out with it

@@ -1,20 +1,10 @@
 -- What a session leaves whose tables are saved, by the walk over its texts.
-use Rattle.std.proofs.Common.{◌≡◌, ℕ, List, Option, None, Some, refl}
-use Rattle.ob_headline.specs.Bases.{Base}
+use Rattle.ob_shell.proofs.Words.{Answer, Base, BeginsToSave, Ending, first_draws, KeySet, Lie, List, Machine, None, Option, refl, RevState, Some, Story, world_of, ℕ, ◌≡◌}
 use Rattle.ob_headline.specs.Flights.{words_of}
 use Rattle.ob_headline.specs.SavedHeadline.{LeavesSaved}
-use Rattle.ob_headline.specs.Story.{Story}
-use Rattle.ob_headline.specs.Words.{Answer}
-use Rattle.ob_headline.specs.declared.ending.Ending.{Ending}
-use Rattle.ob_seal.specs.KeySet.{KeySet}
 use Rattle.ob_shell.proofs.LeaveLemmas.{leaves_saved}
 use Rattle.ob_shell.proofs.WalkLemmas.{Walked}
-use Rattle.ob_shell.specs.Leaving.{BeginsToSave}
-use Rattle.ob_shell.specs.Steps.{Machine}
-use Rattle.ob_store.specs.State.{Lie}
-use Rattle.ob_tables.specs.Agreeing.{first_draws, world_of}
 use Rattle.ob_vault.proofs.WorldSteps.{calm_none}
-use Rattle.ob_vault.specs.State.{RevState}
 
 module _ {R : Type 0} {Lost : Type 0} (state : R → RevState) (ending : Ending) (m0 m1 m2 : Machine R) (texts more : List (List ℕ)) (answers : List Answer) (part : List ℕ)
     (walk : Walked state Lost ending m0 m1 m2 texts more answers part) where

@@ -1,63 +1,35 @@
 -- What one statement does to the mark that is held, and to what rests for it.
-use Rattle.std.proofs.Common.{◌≡◌, ◌⊎◌, inl, inr, ◌<◌, ◌≤◌, ◌&&◌, ℕ, Bool, true, false, IsTrue, List, Option, Some, None, Result, Ok, Err, refl, sym, ◌∙◌, ap, subst, arith}
-use Rattle.std.specs.Prelude.{if◌then◌else◌, is_some}
-use Rattle.ob_base.specs.Refusals.{is_store_fault}
-use Rattle.ob_base.specs.Stored.{AreApart, headings}
-use Rattle.ob_base.specs.declared.config.Public.{Public}
-use Rattle.ob_reopen.specs.declared.mark.Mark.{Mark}
-use Rattle.ob_base.specs.declared.refusal.Refusal.{Refusal}
+use Rattle.ob_shell.proofs.Words.{Agrees, ap, AreByRegion, AreFlat, arith, Base, batch_most, Bool, Cut, Does, Draws, early_refusal, End, Engine, engine_keys, engine_start, Err, false, headings, held_headings, How, if◌then◌else◌, inl, inr, is_fault, is_joined, is_late, is_some, is_store_fault, IsRead, IsTrue, KeeperState, KeptRegion, KeySet, limits_of, List, Machine, Mark, None, Ok, Option, Outcome, pair_of, Public, public_of, refl, Refusal, Refused, Represents, RestsAlike, RestsOn, Result, RevState, RunStop, Seen, seen_or_cut, Session, Skeleton, skeleton, Some, Start, statements_of, Static, Stmt, StoreState, subst, sym, Table, Tables, true, Whole, world_of, ℕ, ◌&&◌, ◌<◌, ◌∙◌, ◌≡◌, ◌≤◌, ◌⊎◌}
+use Rattle.ob_base.specs.Stored.{AreApart}
 use Rattle.ob_base.specs.declared.refusal.Refusal.TheVariants as Refusals
-use Rattle.ob_base.specs.declared.schema.Table.{Table}
-use Rattle.ob_base.specs.declared.seen.End.{End}
-use Rattle.ob_base.specs.declared.seen.End.TheVariants.{Static, Whole, AfterCount, Joined, Cut}
-use Rattle.ob_base.specs.declared.seen.Seen.{Seen}
-use Rattle.ob_base.specs.declared.skeleton.Skeleton.{Skeleton}
 use Rattle.ob_base.specs.declared.skeleton.Skeleton.TheVariants as Skeletons
 use Rattle.ob_exec.specs.Ran.{WasSaved, is_saved_behind}
 use Rattle.ob_exec.specs.Saving.{HoldsSaved}
-use Rattle.ob_headline.specs.Bases.{Base}
 use Rattle.ob_headline.specs.SavedHeadline.{SavesAs}
-use Rattle.ob_headline.specs.Saving.{RestsAlike}
 use Rattle.ob_mean.proofs.FlatLemmas.{seen_is, settle_is}
 use Rattle.ob_mean.proofs.VerdictLemmas.{refused_early}
-use Rattle.ob_mean.specs.Flats.{AreFlat}
-use Rattle.ob_mean.specs.Refusals.{early_refusal, limits_of}
-use Rattle.ob_mean.specs.Batches.{batch_most, is_joined}
-use Rattle.ob_mean.specs.Replay.{Alone, CutAfter, CutWith, How, Session, With, seen_now, seen_or_cut, settle_or_cut}
+use Rattle.ob_mean.specs.Replay.{Alone, CutAfter, CutWith, With, seen_now, settle_or_cut}
 use Rattle.ob_mean.specs.Settle.{settle, settled}
 use Rattle.ob_mean.specs.Step.{followed}
-use Rattle.ob_mean.specs.Verdict.{Draws, Tables, ended as seen_to, is_late, refusal, seen_started}
+use Rattle.ob_mean.specs.Verdict.{ended as seen_to, refusal, seen_started}
 use Rattle.ob_reopen.proofs.ByNameAlike.{named_alike}
 use Rattle.ob_reopen.specs.Closings.{saved_mark}
-use Rattle.ob_reopen.specs.Keepers.{KeeperState}
 use Rattle.ob_reopen.specs.Resting.{by_name}
 use Rattle.ob_script.specs.Saved.{saved_public}
 use Rattle.ob_script.specs.Script.{changes_tables}
 use Rattle.ob_script.specs.Tables.{tables_after, tables_then}
-use Rattle.ob_seal.specs.KeySet.{KeySet, pair_of}
 use Rattle.ob_seal.specs.Sealed.{AreOfSecret, check_of}
 use Rattle.ob_seal.specs.declared.pairs.Pair.{Pair}
-use Rattle.ob_shell.specs.Leaving.{AreByRegion, IsRead, RestsOn}
-use Rattle.ob_shell.specs.Steps.{Does, Machine, StaysAs, statements_of}
-use Rattle.ob_sql.specs.Skeleton.{skeleton}
-use Rattle.ob_sql.specs.declared.stmt.Stmt.{Stmt}
+use Rattle.ob_shell.specs.Steps.{StaysAs}
 use Rattle.ob_sql.specs.declared.stmt.Stmt.TheVariants.{Create, Insert, Update, Delete, Drop as DropTable, SelectRows as RowsStmt, SelectTotals as TotalsStmt}
-use Rattle.ob_store.specs.State.{KeptRegion, StoreState}
-use Rattle.ob_tables.proofs.HeldLemmas.{held_headings}
 use Rattle.ob_tables.proofs.NamesApart.{named_apart}
 use Rattle.ob_tables.proofs.TableLemmas.{region_below}
-use Rattle.ob_tables.specs.Agreeing.{Agrees, engine_keys, engine_start, public_of, world_of}
 use Rattle.ob_tables.specs.Closing.{next_closing}
 use Rattle.ob_tables.specs.Engines.{IsTableRegion}
 use Rattle.ob_tables.specs.Refusals.{refused_end}
-use Rattle.ob_tables.specs.Running.{is_fault, outcome_end}
-use Rattle.ob_tables.specs.Telling.{Represents}
-use Rattle.ob_tables.specs.declared.engine.Engine.{Engine}
-use Rattle.ob_tables.specs.declared.stop.RunStop.{RunStop}
-use Rattle.ob_vault.specs.State.{RevState, Start}
+use Rattle.ob_tables.specs.Running.{outcome_end}
 use Rattle.ob_verdict.proofs.AlikeTables.{alike_turned}
-use Rattle.ob_verdict.specs.declared.outcome.Outcome.{Outcome}
-use Rattle.ob_verdict.specs.declared.outcome.Outcome.TheVariants.{Created, Inserted, Changed, Deleted, Dropped, Rows, Refused}
+use Rattle.ob_verdict.specs.declared.outcome.Outcome.TheVariants.{Rows}
 
 -- ---- how an answer ends
 refused_whole : (r : Refusal) (n : ℕ) → refused_end r n ≡ Whole → is_store_fault r ≡ false

@@ -1,51 +1,21 @@
 -- What one statement does to the tables that rest for the mark that is held, where the store gave what was written.
-use Rattle.std.proofs.Common.{◌≡◌, inl, inr, ◌<◌, ◌&&◌, ℕ, Bool, true, false, IsTrue, List, [], ◌∷◌, Option, Some, None, Result, Ok, Err, refl, sym, ◌∙◌, ap, subst, arith}
-use Rattle.std.specs.Prelude.{if◌then◌else◌}
-use Rattle.ob_base.specs.Stored.{headings}
-use Rattle.ob_base.specs.declared.config.Public.{Public}
-use Rattle.ob_reopen.specs.declared.mark.Mark.{Mark}
+use Rattle.ob_shell.proofs.Words.{AllInsert, ap, AreByRegion, AreDraws, AreFlat, arith, asked_of, Base, Bool, by_fault, Does, Draws, Ending, Err, false, headings, held_headings, How, if◌then◌else◌, inl, inr, inserts_into, is_fault, is_joined, IsTrue, KeeperState, KeySet, Lie, List, Machine, Mark, None, Ok, Option, Outcome, Public, public_of, Ran, refl, Represents, RestsAlike, RestsOn, Result, RevState, RunStop, Seen, seen_of, seen_or_cut, Session, session_of, session_stop, settle_all, Since, Skeleton, skeleton, Some, statements_of, Stmt, StoreState, subst, sym, Tables, true, Whole, ℕ, [], ◌&&◌, ◌<◌, ◌∙◌, ◌∷◌, ◌≡◌}
 use Rattle.ob_base.specs.declared.refusal.Stop.TheVariants as Stops
-use Rattle.ob_base.specs.declared.seen.Seen.{Seen}
-use Rattle.ob_base.specs.declared.skeleton.Skeleton.{Skeleton}
-use Rattle.ob_base.specs.declared.seen.End.TheVariants.{Whole}
 use Rattle.ob_base.specs.declared.skeleton.Skeleton.TheVariants as Skeletons
 use Rattle.ob_exec.specs.Ran.{WasSaved, is_saved_behind, is_whole}
-use Rattle.ob_headline.specs.Batches.{AllInsert}
 use Rattle.ob_script.specs.Script.{changes_tables}
 use Rattle.ob_exec.specs.Saving.{HoldsSaved, SavingCause}
-use Rattle.ob_headline.specs.Bases.{Base}
 use Rattle.ob_headline.specs.SavedHeadline.{MayTakeMore}
-use Rattle.ob_headline.specs.Saving.{RestsAlike}
-use Rattle.ob_headline.specs.declared.ending.Ending.{Ending}
-use Rattle.ob_headline.specs.declared.ending.Ending.TheVariants.{Ran}
-use Rattle.ob_mean.specs.Flats.{AreFlat}
-use Rattle.ob_mean.specs.Batches.{inserts_into, is_joined, settle_all}
-use Rattle.ob_mean.specs.Replay.{Alone, CutAfter, CutWith, How, Session, With, seen_or_cut, settle_or_cut}
+use Rattle.ob_mean.specs.Replay.{Alone, CutAfter, CutWith, With, settle_or_cut}
 use Rattle.ob_mean.specs.Settle.{settle}
-use Rattle.ob_mean.specs.Verdict.{Draws, Tables}
-use Rattle.ob_reopen.specs.Keepers.{KeeperState}
 use Rattle.ob_script.specs.Saved.{saved_public}
-use Rattle.ob_seal.specs.KeySet.{KeySet}
 use Rattle.ob_shell.proofs.LeaveSteps.{Saves, own_mark, read_below, rests_now, rests_past, rests_saved, rests_stay, then_same, uncut, unsaved_same, whole_own}
-use Rattle.ob_shell.specs.Leaving.{AreByRegion, RestsOn}
 use Rattle.ob_shell.proofs.LeavePath.{IsDone}
 use Rattle.ob_shell.proofs.EndLemmas.{end_apart}
-use Rattle.ob_shell.specs.Steps.{Does, Machine, Owed, Owes, asked_of, draws_behind, session_of, statements_of, tables_behind}
-use Rattle.ob_sql.specs.Skeleton.{skeleton}
-use Rattle.ob_sql.specs.declared.stmt.Stmt.{Stmt}
-use Rattle.ob_store.specs.Runs.{Since}
-use Rattle.ob_store.specs.State.{Lie, StoreState}
-use Rattle.ob_tables.proofs.HeldLemmas.{held_headings}
+use Rattle.ob_shell.specs.Steps.{Owed, Owes, draws_behind, tables_behind}
 use Rattle.ob_tables.proofs.TableLemmas.{tables_flat}
-use Rattle.ob_tables.specs.Agreeing.{AreDraws, public_of, seen_of}
-use Rattle.ob_tables.specs.Running.{is_fault}
-use Rattle.ob_tables.specs.Stops.{session_stop}
-use Rattle.ob_tables.specs.Telling.{Kept, Meant, ReadsTrue, Represents}
-use Rattle.ob_tables.specs.declared.stop.RunStop.{RunStop}
-use Rattle.ob_tables.specs.declared.stop.RunStop.TheVariants.{KeeperFault, NoMemory, SinkFault, StashFull, StoreFault, Tampered}
-use Rattle.ob_vault.specs.State.{RevState}
-use Rattle.ob_verdict.specs.Outcomes.{by_fault}
-use Rattle.ob_verdict.specs.declared.outcome.Outcome.{Outcome}
+use Rattle.ob_tables.specs.Telling.{Kept, Meant, ReadsTrue}
+use Rattle.ob_tables.specs.declared.stop.RunStop.TheVariants.{KeeperFault, NoMemory, SinkFault, StoreFault}
 
 -- no lie was told before one in which none is
 pub none_earlier : (a b : StoreState) → Since a b → b.lie ≡ None → a.lie ≡ None

@@ -1,20 +1,10 @@
 -- A store whose list lets go of what statements in flight asked: nothing else that is known of them has changed.
-use Rattle.std.proofs.Common.{inl, inr, ℕ, List, Ok, Option, sym, subst}
-use Rattle.ob_base.specs.declared.seen.Seen.{Seen}
-use Rattle.ob_gen.specs.declared.tally.Tally.{Tally}
+use Rattle.ob_shell.proofs.Words.{Engine, inl, inr, List, Ok, Option, RanAloft, ReadsTrueUntil, RevState, Seen, Stmt, StoreState, subst, sym, Tables, Tally, world_of, ℕ}
 use Rattle.ob_inflight.specs.Closing.{Closed}
-use Rattle.ob_mean.specs.Verdict.{Tables}
 use Rattle.ob_shell.proofs.LetGoLemmas.{agrees_left, calm_now, represents_left, seals_now, since_left}
-use Rattle.ob_shell.specs.Aloft.{RanAloft}
 use Rattle.ob_shell.specs.Flying.{CountsFlight}
 use Rattle.ob_shell.specs.Traces.{LetsGoFrom}
-use Rattle.ob_sql.specs.declared.stmt.Stmt.{Stmt}
 use Rattle.ob_store.specs.Calls.{without_list}
-use Rattle.ob_store.specs.State.{StoreState}
-use Rattle.ob_tables.specs.Agreeing.{world_of}
-use Rattle.ob_tables.specs.Telling.{ReadsTrueUntil}
-use Rattle.ob_tables.specs.declared.engine.Engine.{Engine}
-use Rattle.ob_vault.specs.State.{RevState}
 
 module _ {R : Type 0} (state : R → RevState) (words left : ℕ → ℕ) (stmts : List Stmt) (old : Engine R) (s : StoreState) (new : Engine R) (t : StoreState) where
   module _ (room : ℕ) where

@@ -1,42 +1,27 @@
 -- A store whose list lets go of what was traced: nothing else that is known of it, of an engine over it and of a text that was
 -- answered has changed.
-use Rattle.std.proofs.Common.{◌≡◌, inl, inr, ◌<◌, ℕ, Bool, true, false, List, [], ◌∷◌, length, Option, Ok, ap, subst, sym, arith}
+use Rattle.ob_shell.proofs.Words.{Agrees, Answer, ap, arith, Bool, by_fault, count_of, Does, Draws, Engine, false, Index, inl, inr, is_fault, IsReady, IsSteady, KeeperState, length, List, Machine, Ok, Option, Outcome, RanBatch, Represents, RevState, Since, skeleton, statements_of, Step, Stmt, StoreState, subst, sym, Table, Tables, Tally, true, World, world_of, ℕ, [], ◌<◌, ◌∷◌, ◌≡◌}
 use Rattle.ob_base.specs.declared.schema.Shape.{Shape}
 use Rattle.ob_base.specs.declared.schema.Shape.TheVariants.{Flat as FlatShape, Indexed}
-use Rattle.ob_base.specs.declared.schema.Table.{Table}
 use Rattle.ob_base.specs.Stored.{Stored}
 use Rattle.ob_exec.specs.Ran.{CarriedOut, KeeperBehind, RanWhole}
-use Rattle.ob_exec.specs.RanBatch.{RanBatch}
 use Rattle.ob_flat.specs.Flats as F
 use Rattle.ob_flat.specs.declared.flat.Flat.{Flat}
-use Rattle.ob_gen.specs.declared.tally.Tally.{Tally}
-use Rattle.ob_headline.specs.Words.{Answer}
-use Rattle.ob_mean.specs.Verdict.{Draws, Held, Tables}
+use Rattle.ob_mean.specs.Verdict.{Held}
 use Rattle.ob_oram.specs.Indexes.{IsIndex, Lies}
-use Rattle.ob_oram.specs.declared.index.Index.{Index}
 use Rattle.ob_path.specs.States.{State}
 use Rattle.ob_row.specs.Rows.{Row}
 use Rattle.ob_row.specs.Slots.{Slots}
-use Rattle.ob_reopen.specs.Keepers.{KeeperState}
-use Rattle.ob_shell.specs.Steps.{AnswersText, Does, IsReady, Machine, Owes, Step, statements_of}
+use Rattle.ob_shell.specs.Steps.{AnswersText, Owes}
 use Rattle.ob_shell.specs.Traces.{LetsGoFrom}
-use Rattle.ob_sql.specs.Skeleton.{skeleton}
-use Rattle.ob_sql.specs.declared.stmt.Stmt.{Stmt}
-use Rattle.ob_store.specs.Calls.{IsSteady, without_list}
-use Rattle.ob_store.specs.Runs.{Since}
-use Rattle.ob_store.specs.State.{StoreState}
-use Rattle.ob_tables.specs.Agreeing.{Agrees, count_of, world_of}
+use Rattle.ob_store.specs.Calls.{without_list}
 use Rattle.ob_tables.specs.Engines.{AreTables, IsTable}
-use Rattle.ob_tables.specs.Running.{is_fault}
 use Rattle.ob_tables.specs.Serving.{Means}
-use Rattle.ob_tables.specs.Telling.{AreHeld, HoldsTable, Kept, Meant, ReadsTrue, Represents}
-use Rattle.ob_tables.specs.declared.engine.Engine.{Engine}
+use Rattle.ob_tables.specs.Telling.{AreHeld, HoldsTable, Kept, Meant, ReadsTrue}
 use Rattle.ob_vault.specs.Calls.{Seals}
-use Rattle.ob_vault.specs.State.{RevState, VaultState, World}
+use Rattle.ob_vault.specs.State.{VaultState}
 use Rattle.ob_vault.specs.Tied.{AllSealed, Calm, Holds, Ready, Scope}
 use Rattle.ob_vault.specs.declared.region.Order.{Order}
-use Rattle.ob_verdict.specs.Outcomes.{by_fault}
-use Rattle.ob_verdict.specs.declared.outcome.Outcome.{Outcome}
 
 -- ---- of a vault and the store
 module _ (v : VaultState) (t : StoreState) (room : ℕ) where

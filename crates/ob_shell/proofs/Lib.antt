@@ -95,3 +95,4 @@ pub mod SaltedHeadLemmas
 pub mod SaltedGenLemmas
 pub mod SavedGenLemmas
 pub mod ServerLemmas
+mod Words

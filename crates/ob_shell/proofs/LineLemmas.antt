@@ -1,21 +1,11 @@
 -- Lines that are written one after the other, and where a sink lost one of them.
+use Rattle.ob_shell.proofs.Words.{ap, append-nil, append_assoc, append_cancel_left, Appends, Appends-trans, closing_line, drop, Err, HasCause, inl, inr, length, List, None, Ok, Option, Outcome, Outputs, Outputs-after, Outputs-whole, printed, refl, Result, Rises, subst, sym, Tally, ℕ, [], ◌++◌, ◌+◌, ◌<◌, ◌∙◌, ◌∷◌, ◌≡◌, ◌≤◌}
 use Rattle.std.specs.Prelude.{IsErr, OnErr, OnOk, get_or}
-use Rattle.std.proofs.Common.{◌≡◌, inl, inr, ◌<◌, ◌≤◌, ◌+◌, ℕ, List, [], ◌∷◌, ◌++◌, length, drop, Option, None, Result, Ok, Err, refl, sym, ap, ◌∙◌, subst, append_assoc, append-nil, drop-cons, add-one}
-use Rattle.std.proofs.lemmas.List.{append_cancel_left}
+use Rattle.std.proofs.Common.{drop-cons, add-one}
 use Rattle.std.proofs.Math.ListN.{drop_of_length-le}
-use Rattle.std.proofs.KnownBytes.{Appends-trans}
-use Rattle.std.specs.Io.KnownBytes.{Appends}
-use Rattle.ob_base.specs.Counts.{Rises}
-use Rattle.ob_gen.specs.declared.tally.Tally.{Tally}
-use Rattle.ob_headline.specs.Closing.{closing_line}
-use Rattle.ob_headline.specs.Words.{printed}
-use Rattle.ob_io.specs.Causes.{HasCause}
-use Rattle.ob_print.proofs.CutLemmas.{Outputs-after, Outputs-whole}
-use Rattle.ob_print.specs.Cuts.{Outputs}
 use Rattle.ob_shell.proofs.WaitLemmas.{cut_twice}
 use Rattle.ob_shell.specs.Lines.{BatchCut, LinesCut, line_answers}
 use Rattle.ob_shell.specs.Tallies.{tally_after, tally_with}
-use Rattle.ob_verdict.specs.declared.outcome.Outcome.{Outcome}
 
 abbrev pub lines : List Outcome → List ℕ
 lines outcomes = printed (line_answers outcomes)

@@ -1,20 +1,11 @@
 -- What texts mean of which the first fly together.
-use Rattle.std.specs.Prelude.{◌&&◌, if◌then◌else◌, map, nat_lt}
-use Rattle.std.specs.List.{All}
-use Rattle.std.proofs.Common.{◌≡◌, ◌+◌, ◌<◌, ◌≤◌, ◌++◌, ℕ, suc, Bool, true, false, List, [], ◌∷◌, length, Option, None, Ok, Err, refl, sym, ◌∙◌, ap, subst, arith, append-nil, append_assoc, length-append}
-use Rattle.std.proofs.lemmas.List.Elements.{All-cons, All-head, All-nil, All-tail}
-use Rattle.ob_base.specs.Stored.{headings, headings_of}
-use Rattle.ob_base.specs.declared.skeleton.Skeleton.{Skeleton}
+use Rattle.ob_shell.proofs.Words.{All, All-cons, All-head, All-nil, All-tail, ap, append-nil, append_assoc, arith, Bool, Err, false, Gathering, headings, headings_of, if◌then◌else◌, is_full_now, length, length-append, List, map, may_fly, nat_lt, None, Ok, Option, place_now, refl, Session, Skeleton, skeleton, Spelt, Stmt, subst, suc, sym, true, turns_of, ℕ, [], ◌&&◌, ◌++◌, ◌+◌, ◌<◌, ◌∙◌, ◌∷◌, ◌≡◌, ◌≤◌}
 use Rattle.ob_headline.specs.Disturbed.{Course, behind_flown, course_alone, course_now, course_with, entries_now, entries_with, flown_meant, gathering, landed, meant_entries, meant_together, now_alone}
-use Rattle.ob_headline.specs.Flights.{may_fly, place_now}
-use Rattle.ob_mean.specs.Batches.{Gathering}
-use Rattle.ob_mean.specs.Replay.{Alone, Session, Spelt, is_full_now, seen_now, served_full}
-use Rattle.ob_script.specs.Flights.{Alone as One, Entry, Together, merge, trace_in, turns_of, words_from}
+use Rattle.ob_mean.specs.Replay.{Alone, seen_now, served_full}
+use Rattle.ob_script.specs.Flights.{Alone as One, Entry, Together, merge, trace_in, words_from}
 use Rattle.ob_shell.proofs.HowLemmas.{StartsApart, course_of, flushed, may_by, met_trace, then_select}
 use Rattle.ob_shell.proofs.SeatLemmas.{plus, trace_flown_then, words_later, words_whole}
 use Rattle.ob_shell.proofs.SelectLemmas.{leaves_all, room_flown}
-use Rattle.ob_sql.specs.Skeleton.{skeleton}
-use Rattle.ob_sql.specs.declared.stmt.Stmt.{Stmt}
 
 -- ---- behind turns that were drawn
 abbrev later : (u : ℕ) → Course → Course

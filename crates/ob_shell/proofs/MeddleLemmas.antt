@@ -1,28 +1,14 @@
 -- What the changes of a store do to a run.
-use Rattle.std.specs.Prelude.{nat_lt, take, ⊤}
-use Rattle.std.proofs.Common.{◌≡◌, ◌≢◌, ◌+◌, ℕ, Bool, true, false, not, IsSome, IsTrue, List, [], ◌∷◌, length, Option, None, Some, Ok, Err, inl, inr, refl, sym, ◌∙◌, ap, subst, arith}
+use Rattle.ob_shell.proofs.Words.{Access, ap, arith, BadKey, Bool, Config, cut_off, Disturbance, Ending, EndsUntampered, Err, false, Faults, faults_of, FlightSettings, flying, fresh, Headline, inl, inr, IsBefore, IsHonest, IsSteady, IsTrue, keys_in, KeySet, length, Lie, List, nat_lt, None, Ok, Option, Outside, outside_of, Ran, refl, Report, RisesBy, Seed, SinksRose, Some, statements, status_of, StoreState, Story, subst, sym, take, Tally, Traced, true, Usage, ℕ, [], ⊤, ◌+◌, ◌∙◌, ◌∷◌, ◌≡◌, ◌≢◌}
+use Rattle.std.proofs.Common.{not, IsSome}
 use Rattle.std.proofs.lemmas.List.Folds.{list_all-map}
 use Rattle.std.specs.List.{list_all}
 use Rattle.clap.specs.Words.{Text}
-use Rattle.ob_base.specs.declared.access.Access.{Access}
-use Rattle.ob_base.specs.declared.config.Config.{Config}
 use Rattle.ob_base.specs.declared.refusal.Stop.TheVariants.{Tampered, SourceFault, SinkFault, NoMemory, InputLimit, StoreFault, StashFull, KeeperFault}
-use Rattle.ob_gen.specs.declared.tally.Tally.{Tally}
-use Rattle.ob_headline.specs.Bases.{flying, fresh}
-use Rattle.ob_headline.specs.Endings.{status_of}
 use Rattle.ob_headline.specs.Accesses.{Accesses}
-use Rattle.ob_headline.specs.Failures.{RisesBy, cut_off}
-use Rattle.ob_headline.specs.Headline.{Headline}
 use Rattle.ob_headline.specs.Settings.{MeddleParses, ParsesChanges, flight_of, settings_of}
-use Rattle.ob_headline.specs.Statements.{Statements, statements}
-use Rattle.ob_headline.specs.Story.{Story}
+use Rattle.ob_headline.specs.Statements.{Statements}
 use Rattle.ob_headline.specs.Usage.{is_traced, meddle_usage}
-use Rattle.ob_headline.specs.Words.{Faults, IsHonest, Outside, SinksRose, faults_of, keys_in, outside_of}
-use Rattle.ob_headline.specs.declared.ending.Ending.{Ending}
-use Rattle.ob_headline.specs.declared.ending.Ending.TheVariants.{Usage, BadKey, Ran}
-use Rattle.ob_headline.specs.declared.ending.Report.{Report}
-use Rattle.ob_headline.specs.declared.flight.FlightSettings.{FlightSettings}
-use Rattle.ob_headline.specs.declared.seed.Seed.{Seed}
 use Rattle.ob_meddle.proofs.DueLemmas.{acted_later, all_later}
 use Rattle.ob_meddle.proofs.ShowLemmas.{list_same, shows}
 use Rattle.ob_meddle.specs.Acts.{rests_of}
@@ -38,12 +24,9 @@ use Rattle.ob_shell.proofs.GeneratingLemmas.{with_source}
 use Rattle.ob_shell.proofs.HeadLemmas.{headlined}
 use Rattle.ob_shell.specs.Generating.{RanGenerated, MeddleRan, MeddleSummarized}
 use Rattle.ob_shell.specs.Meddling.{Meddled, Undisturbed, meddle_base}
-use Rattle.ob_shell.specs.Top.{EndsUntampered, Reported, TraceSink, sink_of}
-use Rattle.ob_shell.specs.Traces.{Traced}
-use Rattle.ob_store.specs.Calls.{IsBefore, IsQuiet, IsSteady}
+use Rattle.ob_shell.specs.Top.{Reported, TraceSink, sink_of}
+use Rattle.ob_store.specs.Calls.{IsQuiet}
 use Rattle.ob_store.specs.Logs.{asked_of}
-use Rattle.ob_store.specs.State.{Disturbance, Lie, StoreState}
-use Rattle.ob_seal.specs.KeySet.{KeySet}
 
 -- a store says of a list what is later
 before_of : (list : List Meddle) (n : ℕ) → are_later list n ≡ true → IsBefore (disturbances list) n

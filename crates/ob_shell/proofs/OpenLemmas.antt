@@ -1,16 +1,9 @@
 -- Rows were open where blocks were read or written.
-use Rattle.std.proofs.Common.{◌≡◌, ◌≤◌, ◌++◌, ◌||◌, ℕ, Bool, true, false, IsTrue, List, [], ◌∷◌, drop, length, Result, inl, inr, sym, ◌∙◌, ap, subst, refl, arith}
+use Rattle.ob_shell.proofs.Words.{Access, Answer, ap, arith, at_rest, Bool, drop, false, inl, inr, IsTrue, LastPart, length, List, list_any, Machine, more_together, one_more, refl, Result, RevState, Step, Steps, Stop, subst, sym, true, ℕ, [], ◌++◌, ◌||◌, ◌∙◌, ◌∷◌, ◌≡◌, ◌≤◌}
 use Rattle.std.proofs.lemmas.List.Folds.{list_any-append}
-use Rattle.std.specs.List.{list_any}
-use Rattle.ob_base.specs.declared.access.Access.{Access}
-use Rattle.ob_base.specs.declared.refusal.Stop.{Stop}
 use Rattle.ob_select.specs.Opening.{is_of_rows, Opens}
-use Rattle.ob_headline.specs.Words.{Answer}
 use Rattle.ob_shell.proofs.StepLemmas.{last_by}
-use Rattle.ob_shell.specs.Running.{LastPart}
 use Rattle.ob_shell.specs.Standing.{IsUsed}
-use Rattle.ob_shell.specs.Steps.{Machine, Step, Steps, at_rest, more_together, one_more}
-use Rattle.ob_vault.specs.State.{RevState}
 
 either : (a b : Bool) (old new : ℕ) → old ≤ new → (IsTrue a → 1 ≤ old) → (IsTrue b → 1 ≤ new) → IsTrue (a || b) → 1 ≤ new
 either true b old new kept used some any = let least = used refl in omega (arith, least, kept)

@@ -1,20 +1,11 @@
 -- What is gathered behind statements that were served.
-use Rattle.std.specs.Prelude.{◌&&◌, if◌then◌else◌, nat_le, nat_lt, not}
-use Rattle.std.proofs.Common.{◌≡◌, ◌≤◌, ◌+◌, arith, inl, inr, ℕ, Bool, false, true, List, [], ◌∷◌, Option, refl, ap, ◌∙◌}
+use Rattle.ob_shell.proofs.Words.{ap, arith, Bool, false, FlightSettings, Gathered, gathered_then, headings_of, if◌then◌else◌, inl, inr, is_index, List, may_fly, most_flown, nat_le, nat_lt, Option, place_now, Public, refl, Skeleton, skeleton, Stmt, Table, true, ℕ, [], ◌&&◌, ◌+◌, ◌∙◌, ◌∷◌, ◌≡◌, ◌≤◌}
+use Rattle.std.specs.Prelude.{not}
 use Rattle.std.proofs.lemmas.Bool.{leb-false, ltb-true}
-use Rattle.ob_base.specs.Stored.{headings_of}
-use Rattle.ob_base.specs.declared.config.Public.{Public}
-use Rattle.ob_base.specs.declared.schema.Table.{Table}
-use Rattle.ob_base.specs.declared.skeleton.Skeleton.{Skeleton}
-use Rattle.ob_base.specs.declared.skeleton.Skeleton.TheVariants.{Create as CreateSkeleton, Delete as DeleteSkeleton, Drop as DropSkeleton, Groups, Insert as InsertSkeleton, Rows, Update as UpdateSkeleton}
-use Rattle.ob_base.specs.declared.skeleton.Source.TheVariants.{Table as OneTable, Join}
-use Rattle.ob_headline.specs.Flights.{gathered_then, may_fly, most_flown, place_now}
-use Rattle.ob_headline.specs.declared.flight.FlightSettings.{FlightSettings}
-use Rattle.ob_mean.specs.Refusals.{is_index}
-use Rattle.ob_shell.specs.Steps.{Gathered, gathered_by, none_gathered}
+use Rattle.ob_base.specs.declared.skeleton.Skeleton.TheVariants.{Groups, Rows}
+use Rattle.ob_base.specs.declared.skeleton.Source.TheVariants.{Table as OneTable}
+use Rattle.ob_shell.specs.Steps.{gathered_by, none_gathered}
 use Rattle.ob_shell.specs.Waiting.{IsClosed, IsFree, begins_flight}
-use Rattle.ob_sql.specs.Skeleton.{skeleton}
-use Rattle.ob_sql.specs.declared.stmt.Stmt.{Stmt}
 
 -- ---- what is gathered behind one that was served by itself
 -- none is there, or too many

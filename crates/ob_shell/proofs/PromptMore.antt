@@ -1,18 +1,9 @@
 -- Texts that were answered behind those of which it is said what waits.
-use Rattle.std.specs.Prelude.{drop, map}
-use Rattle.std.specs.List.{All}
-use Rattle.std.proofs.Common.{◌≡◌, ◌⊎◌, ◌<◌, ◌≤◌, ◌++◌, inl, inr, ℕ, Bool, true, false, List, [], ◌∷◌, length, Ok, refl, sym, ◌∙◌, ap, subst, arith, append_assoc, append-nil, length-append}
-use Rattle.std.proofs.lemmas.List.Elements.{All-tail}
-use Rattle.std.proofs.lemmas.Bool.{cases_lt}
-use Rattle.ob_base.specs.declared.config.Public.{Public}
+use Rattle.ob_shell.proofs.Words.{All, All-tail, AllInsert, AnsweredBut, ap, append-nil, append_assoc, arith, before_read, Begins, Bool, cases_lt, drop, false, inl, inr, length, length-append, List, map, may_fly, Ok, Public, refl, skeleton, SpellFirst, Stmt, subst, sym, true, ℕ, [], ◌++◌, ◌<◌, ◌∙◌, ◌∷◌, ◌≡◌, ◌≤◌, ◌⊎◌}
 use Rattle.ob_headline.proofs.PromptLemmas.{prompt_by}
-use Rattle.ob_headline.specs.Batches.{AllInsert, AnsweredBut, Wait}
-use Rattle.ob_headline.specs.Flights.{WaitToFly, may_fly}
-use Rattle.ob_headline.specs.Statements.{SpellFirst}
+use Rattle.ob_headline.specs.Batches.{Wait}
+use Rattle.ob_headline.specs.Flights.{WaitToFly}
 use Rattle.ob_headline.specs.Texts.{rest_of, tail_text, texts_in, texts_of}
-use Rattle.ob_headline.specs.Words.{Begins, before_read}
-use Rattle.ob_sql.specs.Skeleton.{skeleton}
-use Rattle.ob_sql.specs.declared.stmt.Stmt.{Stmt}
 
 -- the first of those that wait was answered
 rest_waits : (most : ℕ) (text : List ℕ) (texts : List (List ℕ)) → Wait most (text ∷ texts) → Wait most texts

@@ -1,36 +1,21 @@
 -- How the reading of a session's texts ends.
-use Rattle.std.proofs.Common.{◌≡◌, ◌<◌, ◌⊎◌, inl, inr, ℕ, Bool, true, false, List, [], ◌∷◌, ◌++◌, length, Option, Result, Ok, Err, refl, sym, ap, ◌∙◌, subst, arith, append_assoc, append-nil}
-use Rattle.std.specs.Io.KnownBytes.{IsAtEnd}
-use Rattle.ob_base.specs.declared.access.Access.{Access}
-use Rattle.ob_base.specs.declared.refusal.Stop.{Stop}
+use Rattle.ob_shell.proofs.Words.{Access, AnsweredBut, ap, append-nil, append_assoc, AreSpelt, arith, asked_of, before_read, Bool, empty_tally, Err, false, Faults, faults_of, Fed, Fetch, Gathered, inl, inr, IsAtEnd, length, List, Machine, Ok, Option, OutFailed, public_of, refl, Result, RevState, RunStop, session_stop, Silenced, standing, Stmt, Stop, stop_of, StopCause, subst, sym, Tally, Traced, TracedAll, true, ℕ, [], ◌++◌, ◌<◌, ◌∙◌, ◌∷◌, ◌≡◌, ◌⊎◌}
 use Rattle.ob_base.specs.declared.refusal.Stop.TheVariants as Stops
-use Rattle.ob_gen.specs.Tally.{empty_tally}
-use Rattle.ob_gen.specs.declared.tally.Tally.{Tally}
 use Rattle.ob_headline.proofs.PromptLemmas.{prompt_all, prompt_by}
 use Rattle.ob_headline.proofs.TextLemmas.{rest_of-append, rest_of-cons, rest_of-nil, rest_of-over, texts_of-append, texts_of-cons, texts_of-nil, texts_of-over}
-use Rattle.ob_headline.specs.Batches.{AnsweredBut}
 use Rattle.ob_headline.specs.Texts.{rest_after, rest_of, tail_text, text_max, texts_at, texts_in, texts_of}
 use Rattle.ob_headline.specs.Status.{StaysAlone}
-use Rattle.ob_headline.specs.Words.{Faults, before_read, faults_of}
 use Rattle.ob_shell.proofs.FeedLemmas.{Fed-then}
 use Rattle.ob_shell.proofs.GatherLemmas.{comes_free}
 use Rattle.ob_shell.proofs.RunLemmas.{below_is_not_over, ran_broken, ran_turn}
 use Rattle.ob_shell.proofs.TraceLemmas.{traced_cut, traced_then, traced_whole}
 use Rattle.ob_shell.proofs.WaitLemmas.{answered_but, break_then, so_then, steps_flown, steps_most, steps_tables}
-use Rattle.ob_shell.specs.Feeding.{Fed, Fetch}
-use Rattle.ob_shell.specs.Running.{IsQuiet, OutFailed, Silenced, SoFar, StopCause, is_quiet, stop_of}
+use Rattle.ob_shell.specs.Running.{IsQuiet, SoFar, is_quiet}
 use Rattle.ob_shell.specs.Serving.{EndsReading, HasRead, IsNotTaken, ReadsTexts, TakesMore, UnlessServed, WantsRoom, broken_of}
-use Rattle.ob_shell.specs.Steps.{AreSpelt, Gathered, Machine, asked_of, standing}
-use Rattle.ob_shell.specs.Traces.{Traced, TracedAll}
 use Rattle.ob_shell.specs.Waiting.{AreWaiting, BreaksIn, ComesFree, IsFree, ServedSo}
 use Rattle.ob_shell.specs.declared.session.Break.{Break}
 use Rattle.ob_shell.specs.declared.session.Break.TheVariants.{Served, Unread}
-use Rattle.ob_sql.specs.declared.stmt.Stmt.{Stmt}
-use Rattle.ob_tables.specs.Agreeing.{public_of}
-use Rattle.ob_tables.specs.Stops.{session_stop}
-use Rattle.ob_tables.specs.declared.stop.RunStop.{RunStop}
 use Rattle.ob_tables.specs.declared.stop.RunStop.TheVariants as Runs
-use Rattle.ob_vault.specs.State.{RevState}
 
 -- the source ended, or failed, with no further byte
 pub so_far_end : {R : Type 0} {state : R → RevState} {f0 f1 f2 : Fetch} {l0 l1 l2 w0 w1 : Option (List ℕ)} {p : List ℕ} {batch : List Stmt} {r : Tally} {m0 m1 : Machine R} → SoFar state f0 f1 l0 l1 w0 w1 p batch r m0 m1 → Fed f1 f2 l1 l2 [] → SoFar state f0 f2 l0 l2 w0 w1 p batch r m0 m1

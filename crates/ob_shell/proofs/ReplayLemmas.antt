@@ -1,37 +1,10 @@
 -- One statement that was answered or cut off, by its meaning.
-use Rattle.std.proofs.Common.{◌≡◌, ◌⊎◌, inl, inr, ◌+◌, ◌≤◌, ℕ, Bool, true, false, List, [], ◌++◌, length, Option, Some, None, Result, refl, sym, ◌∙◌, ap, subst, arith}
-use Rattle.std.proofs.lemmas.List.{length-append}
-use Rattle.ob_base.specs.Refusals.{is_store_fault}
-use Rattle.ob_base.specs.Stored.{headings}
-use Rattle.ob_base.specs.declared.access.Access.{Access}
-use Rattle.ob_base.specs.declared.refusal.Refusal.{Refusal}
+use Rattle.ob_shell.proofs.Words.{Access, after, Answer, ap, AreDraws, arith, asked_of, Bool, by_fault, Cut, Does, Draws, earlier, early_refusal, engine_start, false, Heading, headings, held_headings, How, inl, inr, is_fault, is_late, is_store_fault, length, length-append, Lie, limits_of, List, Machine, next, None, Option, Outcome, public_of, refl, Refusal, refusal_now, Refused, RefusedEarly, Represents, Result, RevState, RunStop, script, Seen, seen_of, seen_or_cut, Session, session_of, settle_all, Since, skeleton, Some, statements_of, Stmt, StoreState, subst, sym, Tables, true, whole_script, ℕ, [], ◌++◌, ◌+◌, ◌∙◌, ◌≡◌, ◌≤◌, ◌⊎◌}
 use Rattle.ob_base.specs.declared.refusal.Refusal.TheVariants.{StoreFault}
-use Rattle.ob_base.specs.declared.schema.Heading.{Heading}
-use Rattle.ob_base.specs.declared.seen.End.TheVariants.{Cut}
-use Rattle.ob_base.specs.declared.seen.Seen.{Seen}
-use Rattle.ob_tables.proofs.HeldLemmas.{held_headings}
-use Rattle.ob_tables.specs.Agreeing.{AreDraws, engine_start, public_of, seen_of}
-use Rattle.ob_verdict.specs.Outcomes.{by_fault, refusal_now}
-use Rattle.ob_tables.specs.Running.{RefusedEarly, is_fault}
-use Rattle.ob_tables.specs.Telling.{Represents}
-use Rattle.ob_verdict.specs.declared.outcome.Outcome.{Outcome}
-use Rattle.ob_verdict.specs.declared.outcome.Outcome.TheVariants.{Created, Inserted, Changed, Deleted, Dropped, Rows, Refused}
-use Rattle.ob_tables.specs.declared.stop.RunStop.{RunStop}
 use Rattle.ob_headline.proofs.CutLemmas.{cut_shorter}
-use Rattle.ob_headline.specs.Words.{Answer}
 use Rattle.ob_mean.specs.Lawful.{CutUpTo}
-use Rattle.ob_mean.specs.Refusals.{early_refusal, limits_of}
-use Rattle.ob_mean.specs.Batches.{settle_all}
-use Rattle.ob_mean.specs.Replay.{How, Session, after, cut_at, draws_taken, seen_now, seen_or_cut}
-use Rattle.ob_mean.specs.Verdict.{Draws, Tables, is_late}
-use Rattle.ob_script.specs.Script.{script, whole_script}
-use Rattle.ob_script.specs.Trace.{next}
-use Rattle.ob_shell.specs.Steps.{AreOwed, Does, Holds, Machine, Owed, ServedStatement, Unasked, asked_of, session_of, statements_of}
-use Rattle.ob_sql.specs.Skeleton.{skeleton}
-use Rattle.ob_sql.specs.declared.stmt.Stmt.{Stmt}
-use Rattle.ob_store.specs.Runs.{Since}
-use Rattle.ob_store.specs.State.{Lie, StoreState}
-use Rattle.ob_vault.specs.State.{RevState, earlier}
+use Rattle.ob_mean.specs.Replay.{cut_at, draws_taken, seen_now}
+use Rattle.ob_shell.specs.Steps.{AreOwed, Holds, Owed, ServedStatement, Unasked}
 
 -- ---- an answer is none by the store, or the store's
 pub record ByStore (outcome : Outcome) (cut also : Type 0) : Type 0 where

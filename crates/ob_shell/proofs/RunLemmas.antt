@@ -1,43 +1,21 @@
 -- What a session has done, byte by byte, and how it ends.
-use Rattle.std.specs.Prelude.{⊤}
-use Rattle.std.proofs.Common.{◌≡◌, ℕ, ◌+◌, ◌<◌, Bool, true, false, List, [], ◌∷◌, ◌++◌, length, Option, Err, Result, refl, sym, ap, ◌∙◌, subst, arith, append_assoc, append-nil}
-use Rattle.std.specs.Io.KnownBytes.{Appends, Consumes, IsAtEnd}
-use Rattle.ob_base.specs.declared.refusal.Stop.{Stop}
-use Rattle.ob_gen.specs.Tally.{empty_tally}
-use Rattle.ob_gen.specs.declared.tally.Tally.{Tally}
+use Rattle.ob_shell.proofs.Words.{AnsweredBut, ap, append-nil, append_assoc, Appends, AreSpelt, arith, asked_of, batch_most, before_read, Begins, Bool, empty_tally, EndsBy, Engine, Err, false, Fed, Fetch, Flights, flights_at, flights_of, FlightSettings, Gathered, IsAtEnd, KeeperState, length, List, Machine, machine_of, most_flown, most_some, Option, OutFailed, Outputs, Outputs-whole, printed, public_of, refl, Result, RevState, RunStop, session_stop, SessionRan, standing, Stmt, Stop, StoreState, subst, sym, Tally, TracedAll, true, ℕ, [], ⊤, ◌++◌, ◌+◌, ◌<◌, ◌∙◌, ◌∷◌, ◌≡◌}
+use Rattle.std.specs.Io.KnownBytes.{Consumes}
 use Rattle.ob_headline.proofs.PromptLemmas.{all_answered, prompt_all}
 use Rattle.ob_headline.proofs.TextLemmas.{rest_of-append, rest_of-cons, rest_of-nil, texts_of-append, texts_of-cons, texts_of-nil}
-use Rattle.ob_headline.specs.Batches.{AnsweredBut}
 use Rattle.ob_headline.specs.Texts.{is_over, rest_after, text_max, texts_at, texts_in, texts_of}
-use Rattle.ob_headline.specs.Words.{Begins, before_read, printed}
-use Rattle.ob_mean.proofs.BatchLemmas.{most_some}
-use Rattle.ob_mean.specs.Batches.{batch_most}
-use Rattle.ob_print.proofs.CutLemmas.{Outputs-whole}
-use Rattle.ob_print.specs.Cuts.{Outputs}
-use Rattle.ob_reopen.specs.Keepers.{KeeperState}
 use Rattle.ob_shell.proofs.FeedLemmas.{Fed-none, Fed-then}
 use Rattle.ob_shell.proofs.StepLemmas.{PartlyAt-more, last_stopped}
 use Rattle.ob_shell.proofs.PlaceLemmas.{none_free}
 use Rattle.ob_shell.proofs.TookLemmas.{took_whole, traces_all, traces_to}
 use Rattle.ob_shell.proofs.TraceLemmas.{traced_then}
 use Rattle.ob_shell.proofs.WaitLemmas.{answered_but, break_then, ends_end, follow_more, last_idle, none_held, so_idle, so_then, steps_flown, steps_most, steps_tables, tally_end}
-use Rattle.ob_shell.specs.Feeding.{Fed, Fetch}
-use Rattle.ob_shell.specs.Flying.{flights_at, flights_of, start_of}
-use Rattle.ob_headline.specs.declared.flight.FlightSettings.{FlightSettings}
-use Rattle.ob_shell.specs.Running.{EndsBy, OutFailed, SessionRan, SoFar}
+use Rattle.ob_shell.specs.Flying.{start_of}
+use Rattle.ob_shell.specs.Running.{SoFar}
 use Rattle.ob_shell.specs.Serving.{HasRead, ended_with}
-use Rattle.ob_headline.specs.Flights.{most_flown}
-use Rattle.ob_shell.specs.Steps.{AreSpelt, Flights, Gathered, Machine, asked_of, machine_of, none_gathered, standing}
-use Rattle.ob_shell.specs.Traces.{TracedAll}
+use Rattle.ob_shell.specs.Steps.{none_gathered}
 use Rattle.ob_shell.specs.Waiting.{AreWaiting, BreaksIn, ComesFree, IsFree, ServedSo}
-use Rattle.ob_sql.specs.declared.stmt.Stmt.{Stmt}
-use Rattle.ob_store.specs.State.{StoreState}
-use Rattle.ob_tables.specs.Agreeing.{public_of}
-use Rattle.ob_tables.specs.Stops.{session_stop}
-use Rattle.ob_tables.specs.declared.engine.Engine.{Engine}
-use Rattle.ob_tables.specs.declared.stop.RunStop.{RunStop}
 use Rattle.ob_tables.specs.declared.stop.RunStop.TheVariants as Runs
-use Rattle.ob_vault.specs.State.{RevState}
 
 -- ---- the session
 pub run_ends : (f : Fetch) (ended : Bool) (bytes : List ℕ) (more : List (List ℕ)) (part : List ℕ) (run : RunStop) → EndsBy f ended bytes more part (Err (session_stop run))

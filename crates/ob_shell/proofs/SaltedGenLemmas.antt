@@ -1,28 +1,13 @@
 -- A run that neither keeps nor saves its tables, over the generated text, and one whose words are not read.
-use Rattle.std.proofs.Common.{◌≡◌, ℕ, Bool, List, [], Option, Some, None, Ok, inl, inr, refl, ap}
-use Rattle.ob_base.specs.Counts.{Rises}
-use Rattle.ob_base.specs.declared.config.Config.{Config}
-use Rattle.ob_headline.specs.Endings.{last_line, status_of}
+use Rattle.ob_shell.proofs.Words.{ap, Bool, Config, Faults, faults_of, FlightSettings, inl, inr, IsFresh, KeeperState, KeptEnded, last_line, LineWritten, List, None, Ok, Option, Outside, outside_of, Plain, Ran, refl, refused_by, Report, Rises, Seed, SinksRose, Some, status_of, StoreState, WordsErr, ℕ, [], ◌≡◌}
 use Rattle.ob_headline.specs.SaltedHeadline.{SaltedHeadline}
-use Rattle.ob_headline.specs.Words.{Faults, Outside, SinksRose, faults_of, outside_of}
-use Rattle.ob_headline.specs.declared.ending.Ending.TheVariants.{Ran}
-use Rattle.ob_headline.specs.declared.ending.KeptEnding.TheVariants.{Plain}
-use Rattle.ob_headline.specs.declared.ending.Report.{Report}
-use Rattle.ob_headline.specs.declared.flight.FlightSettings.{FlightSettings}
-use Rattle.ob_headline.specs.declared.seed.Seed.{Seed}
-use Rattle.ob_reopen.specs.Keepers.{KeeperState}
 use Rattle.ob_shell.proofs.CountLemmas.{silenced_kept, silenced_rose}
 use Rattle.ob_shell.proofs.GeneratingLemmas.{trace_rose}
 use Rattle.ob_shell.proofs.KeptGenLemmas.{summarized_by, unkept_line, unread_run, unread_summarized_by, whole_cause}
 use Rattle.ob_shell.proofs.SaltedHeadLemmas.{salted_headed}
-use Rattle.ob_shell.specs.Closed.{LineWritten, refused_by}
 use Rattle.ob_shell.specs.Engaging.{IsHushed}
 use Rattle.ob_shell.specs.Salting.{RanSalted, SaltedGenerated}
 use Rattle.ob_shell.specs.SavedSummary.{SaltedSummarized}
-use Rattle.ob_shell.specs.Top.{IsFresh}
-use Rattle.ob_shell.specs.declared.keeping.KeptEnded.{KeptEnded}
-use Rattle.ob_store.specs.State.{StoreState}
-use Rattle.ob_words.specs.declared.words.WordsErr.{WordsErr}
 use Rattle.ob_words.specs.declared.words.WordsErr.TheVariants as Words
 
 -- ---- the run

@@ -1,34 +1,13 @@
 -- The headline of a run that neither keeps nor saves its tables, by what was done until its last line.
-use Rattle.std.proofs.Common.{◌≡◌, ℕ, Bool, true, false, List, [], Option, Some, inl, inr, refl, sym, ◌∙◌, ap, subst, arith}
-use Rattle.std.proofs.KnownBytes.{Appends-nil}
-use Rattle.ob_base.specs.declared.access.Access.{Access}
-use Rattle.ob_base.specs.declared.config.Config.{Config}
-use Rattle.ob_headline.specs.Bases.{flying, fresh}
-use Rattle.ob_headline.specs.Headline.{Headline}
+use Rattle.ob_shell.proofs.Words.{Access, ap, Appends-nil, arith, Bool, Config, Ending, EndingTally, false, Faults, FlightSettings, flying, fresh, Headline, inl, inr, KeeperState, KeptEnded, KeptEnding, KeptTally, LineWritten, List, Option, Outputs, Outputs-whole, Outside, Plain, refl, Report, SinksRose, Some, StoreState, subst, sym, Traced, traced, true, Unwritten, ℕ, [], ◌∙◌, ◌≡◌}
 use Rattle.ob_headline.specs.Keeping.{kept_line, kept_status}
 use Rattle.ob_headline.specs.KeyLine.{first_line, secret_of}
 use Rattle.ob_headline.specs.SaltedHeadline.{SaltedHeadline, SessionSalted, Undrawn, own_keys}
-use Rattle.ob_headline.specs.Tracing.{traced}
-use Rattle.ob_headline.specs.Words.{Faults, Outside, SinksRose}
-use Rattle.ob_headline.specs.declared.ending.Ending.{Ending}
-use Rattle.ob_headline.specs.declared.ending.KeptEnding.{KeptEnding}
-use Rattle.ob_headline.specs.declared.ending.KeptEnding.TheVariants.{Plain}
-use Rattle.ob_headline.specs.declared.ending.Report.{Report}
-use Rattle.ob_headline.specs.declared.flight.FlightSettings.{FlightSettings}
-use Rattle.ob_print.proofs.CutLemmas.{Outputs-whole}
-use Rattle.ob_print.specs.Cuts.{Outputs}
-use Rattle.ob_reopen.specs.Keepers.{KeeperState}
 use Rattle.ob_shell.proofs.GeneratingLemmas.{traced_by_fault}
 use Rattle.ob_shell.proofs.HeadLemmas.{headlined}
 use Rattle.ob_shell.proofs.KeptLemmas.{HeadTold, SessionTold, counted_by, line_behind, session_told, silent_behind, unkeyed_counted, unkeyed_run, with_line}
 use Rattle.ob_shell.proofs.TraceLemmas.{traced-nil}
-use Rattle.ob_shell.specs.Closed.{LineWritten, Unwritten}
-use Rattle.ob_shell.specs.KeptSummary.{KeptTally}
 use Rattle.ob_shell.specs.Salting.{RanDrawn, RanSalted, RanUndrawn}
-use Rattle.ob_shell.specs.Top.{EndingTally}
-use Rattle.ob_shell.specs.Traces.{Traced}
-use Rattle.ob_shell.specs.declared.keeping.KeptEnded.{KeptEnded}
-use Rattle.ob_store.specs.State.{StoreState}
 
 module _ {Takes : Type 0} (settings : Option Config) (flight : Option FlightSettings) (config : Config) (takes : Takes) (set : settings ≡ Some config) (tracing : Bool) (old mid : Outside) (ended : KeptEnded) (k0 k1 : KeeperState)
     (w2 : Option (List ℕ)) (out2 : ℕ) (report : Report) (status : report.status ≡ kept_status ended.ending) (high : report.high ≡ ended.high)

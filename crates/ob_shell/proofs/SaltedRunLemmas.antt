@@ -1,37 +1,15 @@
 -- A run that neither keeps nor saves its tables, behind its first line.
-use Rattle.std.specs.Prelude.{IfOk}
-use Rattle.std.proofs.Common.{◌≡◌, ◌≤◌, ◌++◌, ℕ, Bool, true, false, List, [], Option, Some, Result, Ok, Err, inr, inl, refl, sym, ◌∙◌, ap, subst, arith}
-use Rattle.ob_base.specs.Publics.{first_public}
-use Rattle.ob_base.specs.declared.config.Config.{Config}
-use Rattle.ob_base.specs.declared.refusal.Stop.{Stop}
-use Rattle.ob_gen.specs.Tally.{empty_tally}
-use Rattle.ob_gen.specs.declared.tally.Tally.{Tally}
-use Rattle.ob_headline.specs.Bases.{flying, fresh}
+use Rattle.ob_shell.proofs.Words.{ap, arith, Bool, Config, empty_tally, Err, false, Faults, Fetch, first_public, FirstLine, flagged, FlightSettings, flying, fresh, Halt, IfOk, inl, inr, IsFedBy, IsFresh, KeeperState, KeptEnded, KeyRead, limit_of, List, Ok, Option, OutFailed, outside_of, Plain, Ran, refl, Result, RevState, ServesAlone, Silenced, Some, Stop, StopCause, StoreState, subst, sym, Tally, Traced, true, ℕ, [], ◌++◌, ◌∙◌, ◌≡◌, ◌≤◌}
 use Rattle.ob_headline.specs.KeyLine.{first_line, secret_of}
 use Rattle.ob_headline.specs.SaltedHeadline.{own_keys}
-use Rattle.ob_headline.specs.Settings.{limit_of}
-use Rattle.ob_headline.specs.Words.{Faults, outside_of}
-use Rattle.ob_headline.specs.declared.ending.Ending.TheVariants.{Ran}
-use Rattle.ob_headline.specs.declared.ending.KeptEnding.TheVariants.{Plain}
-use Rattle.ob_headline.specs.declared.flight.FlightSettings.{FlightSettings}
-use Rattle.ob_reopen.specs.Keepers.{DrawsSalt, KeeperState}
+use Rattle.ob_reopen.specs.Keepers.{DrawsSalt}
 use Rattle.ob_shell.proofs.CountLemmas.{same_cause}
 use Rattle.ob_shell.proofs.TallyLemmas.{tally_after-nil}
 use Rattle.ob_shell.proofs.TopLemmas.{after_secret, piece_is, piece_prompt, piece_within, shown_by, shown_last}
 use Rattle.ob_shell.proofs.TraceLemmas.{traced_none, traced_whole}
-use Rattle.ob_shell.specs.Feeding.{Fetch, IsFedBy}
-use Rattle.ob_shell.specs.LineRead.{KeyRead}
-use Rattle.ob_shell.specs.Running.{OutFailed, ServesAlone, Silenced, StopCause}
 use Rattle.ob_shell.specs.Salting.{FailsToDraw, RanSalted}
-use Rattle.ob_shell.specs.Tallies.{flagged}
-use Rattle.ob_shell.specs.Top.{Carried, IsFresh, RanAfter, sink_of}
-use Rattle.ob_shell.specs.Traces.{Traced}
-use Rattle.ob_shell.specs.declared.feed.Halt.{Halt}
-use Rattle.ob_shell.specs.declared.keeping.KeptEnded.{KeptEnded}
-use Rattle.ob_shell.specs.declared.key.FirstLine.{FirstLine}
+use Rattle.ob_shell.specs.Top.{Carried, RanAfter, sink_of}
 use Rattle.ob_shell.specs.declared.key.FirstLine.TheVariants.{Secret, Last}
-use Rattle.ob_store.specs.State.{StoreState}
-use Rattle.ob_vault.specs.State.{RevState}
 
 flagged_cause : (Alone : Type 0) (result : Result Tally Stop) (old new : Faults) → StopCause Alone old new result → StopCause Alone old new (flagged result)
 flagged_cause Alone (Ok tally) old new cause = cause

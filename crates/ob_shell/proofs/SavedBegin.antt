@@ -1,55 +1,36 @@
 -- How a run begins whose tables are saved, by the mark that its keeper gave.
-use Rattle.std.specs.Prelude.{◌≢◌, ◌==◌, ⊤, IsTrue, MatchBool, slice_get}
-use Rattle.std.proofs.Common.{◌≡◌, ◌<◌, ◌++◌, ℕ, suc, Bool, true, List, [], ◌∷◌, length, map, Option, Some, None, Ok, Err, if◌then◌else◌, inl, inr, refl, sym, ◌∙◌, ap, subst, arith}
-use Rattle.std.proofs.lemmas.Bool.Decides.{nat_tests}
+use Rattle.ob_shell.proofs.Words.{Access, ap, AreByRegion, arith, Base, BeginsToSave, Bool, Closing, Config, count_of, earlier, Engine, engine_start, Err, fresh, headings, headings_of, held_headings, if◌then◌else◌, indexes_of, inl, inr, IsFresh, IsRead, IsSteady, IsTrue, KeeperState, KeptEnding, KeptRegion, KeySet, length, List, machine_of, map, Mark, nat_tests, no_flights, None, Ok, Option, option_map, pair_of, Public, public_of, refl, Represents, RestsOn, RevState, slice_get, Some, Start, StoreState, subst, suc, sym, Tables, true, world_of, ℕ, [], ⊤, ◌++◌, ◌<◌, ◌∙◌, ◌∷◌, ◌≡◌, ◌≢◌}
+use Rattle.std.specs.Prelude.{◌==◌, MatchBool}
 use Rattle.std.proofs.lemmas.Option.{slice_get-map}
-use Rattle.std.specs.Option.{option_map}
-use Rattle.ob_base.specs.Stored.{AreApart, headings, headings_of}
-use Rattle.ob_base.specs.declared.access.Access.{Access}
-use Rattle.ob_base.specs.declared.config.Config.{Config}
-use Rattle.ob_base.specs.declared.config.Public.{Public}
+use Rattle.ob_base.specs.Stored.{AreApart}
 use Rattle.ob_base.specs.declared.fault.Failed.{Failed}
-use Rattle.ob_reopen.specs.declared.mark.Mark.{Mark}
 use Rattle.ob_reopen.specs.declared.mark.Mark.TheVariants.{Fresh, InUse, Closed, Begun, Saved}
 use Rattle.ob_headline.proofs.FlatLemmas.{opened_flat}
-use Rattle.ob_headline.specs.Bases.{Base, Opened, fresh, reopened}
+use Rattle.ob_headline.specs.Bases.{Opened, reopened}
 use Rattle.ob_headline.specs.Keeping.{closing_named, opening_end}
 use Rattle.ob_headline.specs.Saving.{BeginsSaved, EndsShut, HandsBegun, IsFoundBare, LooksBare, ReopensSaved, RestsAt, StaysLocked, StaysShut, begun_mark}
-use Rattle.ob_headline.specs.declared.ending.KeptEnding.{KeptEnding}
 use Rattle.ob_headline.specs.declared.ending.KeptEnding.TheVariants.{OtherPack}
-use Rattle.ob_mean.specs.Verdict.{Tables}
 use Rattle.ob_reopen.proofs.OutlastLemmas.{listed_last, rests_last}
 use Rattle.ob_reopen.proofs.SavedLemmas.{rests_under}
-use Rattle.ob_reopen.specs.Keepers.{IsMark, KeeperState}
+use Rattle.ob_reopen.specs.Keepers.{IsMark}
 use Rattle.ob_reopen.specs.Reopened.{opening_script}
 use Rattle.ob_reopen.specs.Resting.{IsNeeded, Rests}
 use Rattle.ob_reopen.specs.Saved.{RestsBy, reopening_keys, salted_of, salted_regions}
-use Rattle.ob_reopen.specs.declared.closing.Closing.{Closing}
 use Rattle.ob_reopen.specs.declared.fault.OpenErr.{OpenErr}
 use Rattle.ob_reopen.specs.declared.listed.Listed.{Listed}
 use Rattle.ob_seal.proofs.Salts.{own_pair, salted_of_secret}
-use Rattle.ob_seal.specs.KeySet.{KeySet, pair_of}
 use Rattle.ob_seal.specs.Sealed.{AreBefore, keys_salted}
 use Rattle.ob_seal.specs.declared.pairs.Pair.{Pair}
 use Rattle.ob_shell.proofs.LeaveBegin.{rests_none}
 use Rattle.ob_shell.proofs.StandLemmas.{stands_first}
 use Rattle.ob_shell.proofs.SweepLemmas.{agrees_swept, calm_swept, read_stays, represents_swept, sealed_swept}
 use Rattle.ob_shell.specs.EngagingSaved.{EngagesSaved, EngineBy, FitsSecret, IsStarted, pack_of}
-use Rattle.ob_shell.specs.Leaving.{AreByRegion, BeginsToSave, IsRead, RestsOn}
 use Rattle.ob_shell.specs.Standing.{StandsOn}
-use Rattle.ob_shell.specs.Steps.{machine_of, no_flights}
-use Rattle.ob_shell.specs.Top.{IsFresh}
-use Rattle.ob_store.specs.Calls.{IsSteady, Sweeps}
-use Rattle.ob_store.specs.State.{KeptRegion, StoreState}
-use Rattle.ob_tables.proofs.HeldLemmas.{held_headings}
+use Rattle.ob_store.specs.Calls.{Sweeps}
 use Rattle.ob_tables.proofs.NamesApart.{named_apart}
 use Rattle.ob_tables.proofs.OpenSavedLemmas.{own_pair as closing_pair}
-use Rattle.ob_tables.specs.Agreeing.{count_of, engine_start, indexes_of, public_of, world_of}
 use Rattle.ob_tables.specs.Reopening.{IsOpened}
 use Rattle.ob_tables.specs.Saving.{IsOpenedBy, NamesClosing, OpensSaved}
-use Rattle.ob_tables.specs.Telling.{Represents}
-use Rattle.ob_tables.specs.declared.engine.Engine.{Engine}
-use Rattle.ob_vault.specs.State.{RevState, Start, earlier}
 use Rattle.ob_vault.specs.Tied.{TagFits}
 use Rattle.ob_exec.specs.Saving.{MaySave}
 

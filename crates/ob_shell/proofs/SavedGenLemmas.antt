@@ -1,37 +1,16 @@
 -- A run whose tables are saved over the generated text, one whose words are not read, and which of them the words ask for.
-use Rattle.std.proofs.Common.{◌≡◌, ℕ, Bool, true, false, List, [], Option, Some, None, Ok, inl, inr, refl, sym, subst, arith}
-use Rattle.ob_headline.specs.declared.flight.FlightSettings.{FlightSettings}
-use Rattle.ob_base.specs.Counts.{Rises}
-use Rattle.ob_base.specs.declared.config.Config.{Config}
-use Rattle.ob_gen.specs.Generated.{generated}
-use Rattle.ob_gen.specs.Tally.{empty_tally}
+use Rattle.ob_shell.proofs.Words.{Bool, Config, false, faults_of, FlightSettings, inl, inr, IsFresh, KeeperState, KeptEnded, last_line, LineWritten, List, None, Ok, Option, Outside, outside_of, Plain, Ran, refl, refused_by, Report, Rises, Seed, SinksRose, Some, status_of, StoreState, subst, sym, true, WordsErr, ℕ, [], ◌≡◌}
 use Rattle.ob_headline.proofs.StopLemmas.{unbegun_stops}
-use Rattle.ob_headline.specs.Endings.{last_line, status_of}
-use Rattle.ob_headline.specs.Keeping.{kept_line, kept_status}
 use Rattle.ob_headline.specs.SavedHeadline.{SavedHeadline}
-use Rattle.ob_headline.specs.Words.{Faults, Outside, SinksRose, faults_of, outside_of}
-use Rattle.ob_headline.specs.declared.ending.Ending.TheVariants.{Ran}
-use Rattle.ob_headline.specs.declared.ending.KeptEnding.{KeptEnding}
-use Rattle.ob_headline.specs.declared.ending.KeptEnding.TheVariants.{Plain}
-use Rattle.ob_headline.specs.declared.ending.Report.{Report}
-use Rattle.ob_headline.specs.declared.seed.Seed.{Seed}
-use Rattle.ob_print.proofs.CutLemmas.{Outputs-whole}
-use Rattle.ob_reopen.specs.Keepers.{KeeperState}
 use Rattle.ob_shell.proofs.CountLemmas.{silenced_kept, silenced_rose}
 use Rattle.ob_shell.proofs.GeneratingLemmas.{trace_rose}
 use Rattle.ob_shell.proofs.KeptGenLemmas.{may_keep_unread, summarized_by, unkept_line, unread_run, unread_summarized_by, whole_cause}
 use Rattle.ob_shell.proofs.SaltedGenLemmas.{salted_unread, salted_unread_summarized}
 use Rattle.ob_shell.proofs.SavedHeadLemmas.{saved_headed}
-use Rattle.ob_shell.specs.Closed.{LineWritten, refused_by}
-use Rattle.ob_shell.specs.Engaging.{IsHushed, KeptClosedBy}
+use Rattle.ob_shell.specs.Engaging.{IsHushed}
 use Rattle.ob_shell.specs.EngagingSaved.{RanSaved, SavedGenerated}
-use Rattle.ob_shell.specs.KeptSummary.{KeptConcludes, KeptTally}
 use Rattle.ob_shell.specs.SavedSummary.{KeepsOrSaves, SavedSummarized}
-use Rattle.ob_shell.specs.Top.{IsFresh}
-use Rattle.ob_shell.specs.declared.keeping.KeptEnded.{KeptEnded}
-use Rattle.ob_words.specs.declared.words.WordsErr.{WordsErr}
 use Rattle.ob_words.specs.declared.words.WordsErr.TheVariants as Words
-use Rattle.ob_store.specs.State.{StoreState}
 
 -- ---- the run
 module _ (config : Config) (flight : Option FlightSettings) (tracing : Bool) (ended : KeptEnded) (old mid : Outside) (k0 k1 : KeeperState) where

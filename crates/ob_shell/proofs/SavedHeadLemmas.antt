@@ -1,37 +1,14 @@
 -- The headline of a run whose tables are saved, by what was done until its last line.
-use Rattle.std.proofs.Common.{◌≡◌, ℕ, Bool, true, false, List, [], Option, Some, inl, inr, refl, sym, ◌∙◌, ap, subst, arith}
-use Rattle.ob_headline.specs.declared.flight.FlightSettings.{FlightSettings}
-use Rattle.ob_base.specs.declared.config.Config.{Config}
-use Rattle.ob_reopen.specs.declared.mark.Mark.{Mark}
-use Rattle.ob_headline.specs.Bases.{flying}
+use Rattle.ob_shell.proofs.Words.{ap, arith, Bool, Config, Ending, EndingTally, false, FlightSettings, flying, Headline, inl, inr, KeeperState, KeptEnded, KeptEnding, KeptTally, LineWritten, List, Mark, Option, Outside, Plain, Ran, refl, Report, SinksRose, Some, Story, subst, sym, Traced, true, Unwritten, ℕ, [], ◌∙◌, ◌≡◌}
 use Rattle.ob_headline.proofs.StopLemmas.{unbegun_stops}
-use Rattle.ob_headline.specs.Endings.{status_of}
-use Rattle.ob_headline.specs.Headline.{Headline}
 use Rattle.ob_headline.specs.Keeping.{kept_line, kept_status}
 use Rattle.ob_headline.specs.KeptHeadline.{begun_at}
 use Rattle.ob_headline.specs.KeyLine.{first_line, secret_of}
 use Rattle.ob_headline.specs.SavedHeadline.{CountsKeeper, LeavesSaved, SavedHeadline, SessionSaved, UnbegunSaved}
-use Rattle.ob_headline.specs.Story.{Story}
-use Rattle.ob_headline.specs.Words.{Answer, Outside, SinksRose}
-use Rattle.ob_headline.specs.declared.ending.Ending.{Ending}
-use Rattle.ob_headline.specs.declared.ending.Ending.TheVariants.{Ran}
-use Rattle.ob_headline.specs.declared.ending.KeptEnding.{KeptEnding}
-use Rattle.ob_headline.specs.declared.ending.KeptEnding.TheVariants.{Plain}
-use Rattle.ob_headline.specs.declared.ending.Report.{Report}
-use Rattle.ob_reopen.specs.Keepers.{KeeperState}
-use Rattle.ob_shell.proofs.CompleteLemmas.{reported_line, reported_quiet}
-use Rattle.ob_shell.proofs.CountLemmas.{silenced_kept, silenced_rose}
 use Rattle.ob_shell.proofs.GeneratingLemmas.{cut_rose, traced_by_fault}
 use Rattle.ob_shell.proofs.HeadLemmas.{headlined}
 use Rattle.ob_shell.proofs.KeptLemmas.{HeadTold, SessionTold, counted_by, line_behind, session_told, silent_behind, unkeyed_counted, unkeyed_run, with_line}
-use Rattle.ob_shell.proofs.TopLemmas.{shown_line, takes_of}
-use Rattle.ob_shell.specs.Closed.{LineWritten, Unwritten}
 use Rattle.ob_shell.specs.EngagingSaved.{RanSaved, RanSession, RanUnsaved}
-use Rattle.ob_shell.specs.KeptSummary.{KeptTally}
-use Rattle.ob_shell.specs.Running.{OutFailed}
-use Rattle.ob_shell.specs.Top.{EndingTally, EndingWords, Reported, RunShown, sink_of}
-use Rattle.ob_shell.specs.Traces.{Traced}
-use Rattle.ob_shell.specs.declared.keeping.KeptEnded.{KeptEnded}
 
 module _ {Takes : Type 0} (settings : Option Config) (flight : Option FlightSettings) (config : Config) (takes : Takes) (set : settings ≡ Some config) (tracing : Bool) (old mid : Outside) (ended : KeptEnded) (k0 k1 : KeeperState)
     (w2 : Option (List ℕ)) (out2 : ℕ) (report : Report) (status : report.status ≡ kept_status ended.ending) (high : report.high ≡ ended.high)

@@ -1,44 +1,14 @@
 -- A run whose tables are saved, behind its first line.
-use Rattle.std.specs.Prelude.{IfOk}
-use Rattle.std.proofs.Common.{◌≡◌, ◌≤◌, ◌++◌, ℕ, Bool, true, false, List, [], Option, Some, Result, Ok, Err, inr, refl, sym, ◌∙◌, ap, subst, arith, None}
-use Rattle.ob_base.specs.Publics.{first_public}
-use Rattle.ob_base.specs.declared.config.Config.{Config}
-use Rattle.ob_base.specs.declared.config.Public.{Public}
-use Rattle.ob_base.specs.declared.refusal.Stop.{Stop}
-use Rattle.ob_gen.specs.Tally.{empty_tally}
-use Rattle.ob_gen.specs.declared.tally.Tally.{Tally}
-use Rattle.ob_headline.specs.Bases.{Base, flying}
+use Rattle.ob_shell.proofs.Words.{ap, arith, Base, BeginsToSave, Bool, Config, empty_tally, Engine, Err, false, Faults, faults_of, Fetch, first_public, FirstLine, flagged, Flights, flights_at, FlightSettings, flying, Halt, high_of, IfOk, inr, IsFedBy, KeeperState, KeptEnded, KeyRead, KeySet, limit_of, List, machine_of, no_flights, None, Ok, Option, OutFailed, outside_of, Plain, Public, public_of, Ran, refl, RestsOn, Result, RevState, rows_of, ServesAlone, SessionRan, Silenced, Some, Stop, StopCause, StoreState, subst, sym, Tally, Traced, true, ℕ, [], ◌++◌, ◌∙◌, ◌≡◌, ◌≤◌}
 use Rattle.ob_headline.specs.KeyLine.{after_line, first_line, secret_of}
-use Rattle.ob_headline.specs.Settings.{limit_of}
-use Rattle.ob_headline.specs.Words.{Faults, faults_of, outside_of}
-use Rattle.ob_headline.specs.declared.ending.Ending.TheVariants.{Ran}
-use Rattle.ob_headline.specs.declared.ending.KeptEnding.TheVariants.{Plain}
-use Rattle.ob_reopen.specs.Keepers.{KeeperState}
-use Rattle.ob_seal.specs.KeySet.{KeySet}
 use Rattle.ob_shell.proofs.CountLemmas.{same_cause}
 use Rattle.ob_shell.proofs.SessionLemmas.{keeper_counts, leaves, ran_after, ran_last}
 use Rattle.ob_shell.proofs.TopLemmas.{after_last, after_secret, piece_is, piece_prompt, piece_within, shown_by}
 use Rattle.ob_shell.proofs.TraceLemmas.{traced_none, traced_whole}
 use Rattle.ob_shell.specs.EngagingSaved.{EndsUnsaved, EngagesSaved, RanSaved, RanSession, RanUnsaved, ServesSaved, StartsSaved}
-use Rattle.ob_shell.specs.Feeding.{Fetch, IsFedBy}
-use Rattle.ob_shell.specs.Leaving.{BeginsToSave, RestsOn}
-use Rattle.ob_shell.specs.LineRead.{KeyRead}
-use Rattle.ob_shell.specs.Running.{OutFailed, ServesAlone, SessionRan, Silenced, StopCause}
-use Rattle.ob_headline.specs.declared.flight.FlightSettings.{FlightSettings}
 use Rattle.ob_shell.proofs.StandLemmas.{flying_each, stands_flying}
-use Rattle.ob_shell.specs.Flying.{flights_at}
-use Rattle.ob_shell.specs.Steps.{Flights, machine_of, no_flights}
-use Rattle.ob_shell.specs.Tallies.{flagged}
 use Rattle.ob_shell.specs.Top.{Carried, sink_of}
-use Rattle.ob_shell.specs.Traces.{Traced}
-use Rattle.ob_shell.specs.declared.feed.Halt.{Halt}
-use Rattle.ob_shell.specs.declared.keeping.KeptEnded.{KeptEnded}
-use Rattle.ob_shell.specs.declared.key.FirstLine.{FirstLine}
 use Rattle.ob_shell.specs.declared.key.FirstLine.TheVariants.{Secret, Last}
-use Rattle.ob_store.specs.State.{StoreState}
-use Rattle.ob_tables.specs.Agreeing.{high_of, public_of, rows_of}
-use Rattle.ob_tables.specs.declared.engine.Engine.{Engine}
-use Rattle.ob_vault.specs.State.{RevState}
 
 -- ---- texts were served
 module _ {R : Type 0} (state : R → RevState) (base : Base) (config : Config) (keys : KeySet) (secret salt : List ℕ) (first last : Engine R) (k0 k1 : KeeperState) (flight : Option FlightSettings) (left : Flights) (s0 s1 : StoreState) (engages : EngagesSaved state base config keys first s0 k0)

@@ -1,11 +1,8 @@
 -- By what statements go that are served one behind the other, alone or several together.
-use Rattle.std.proofs.Common.{◌≡◌, ◌+◌, ℕ, List, [], ◌∷◌, ◌++◌, length, Option, refl, sym, ◌∙◌, ap, arith, append-nil}
-use Rattle.ob_base.specs.declared.access.Access.{Access}
-use Rattle.ob_base.specs.declared.config.Public.{Public}
-use Rattle.ob_headline.specs.Flights.{Seat, after_entries, seat_alone, seats, seats_aloft}
-use Rattle.ob_script.specs.Flights.{Alone, Entry, Together, flight_accesses, next_flight, trace_in, turns_of, words_from}
-use Rattle.ob_script.specs.Script.{script}
-use Rattle.ob_script.specs.Trace.{Served, next}
+use Rattle.ob_shell.proofs.Words.{Access, ap, append-nil, arith, length, List, next, Option, Public, refl, script, Seat, sym, turns_of, ℕ, [], ◌++◌, ◌+◌, ◌∙◌, ◌∷◌, ◌≡◌}
+use Rattle.ob_headline.specs.Flights.{after_entries, seat_alone, seats, seats_aloft}
+use Rattle.ob_script.specs.Flights.{Alone, Entry, Together, flight_accesses, next_flight, trace_in, words_from}
+use Rattle.ob_script.specs.Trace.{Served}
 
 -- ---- the words that are left
 pub plus : (n t k : ℕ) → (n + t) + k ≡ n + (t + k)

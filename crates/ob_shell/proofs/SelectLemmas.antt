@@ -1,29 +1,16 @@
 -- A SELECT that may fly: nothing is gathered with it, and it leaves tables and draws as they are.
-use Rattle.std.specs.Prelude.{if◌then◌else◌, ◌&&◌, is_some, nat_le, nat_lt, not, bytes_eq}
-use Rattle.std.specs.Option.{is_none, option_map, option_map_or}
-use Rattle.std.proofs.Common.{◌≡◌, ◌+◌, ℕ, Bool, true, false, List, Option, Some, None, refl, sym, ◌∙◌, ap, arith}
-use Rattle.ob_base.specs.Stored.{headings, headings_of}
-use Rattle.ob_base.specs.declared.config.Public.{Public}
-use Rattle.ob_base.specs.declared.refusal.Refusal.{Refusal}
-use Rattle.ob_base.specs.declared.seen.End.{End}
-use Rattle.ob_base.specs.declared.seen.End.TheVariants.{Static, Whole, AfterCount, Joined, Cut}
-use Rattle.ob_base.specs.declared.seen.Seen.{Seen}
-use Rattle.ob_base.specs.declared.skeleton.Skeleton.{Skeleton}
+use Rattle.ob_shell.proofs.Words.{access_public, after, ap, arith, batch_most, begins_batch, Bool, Draws, early_refusal, End, false, Gathering, headings, headings_of, How, if◌then◌else◌, inserts_into, is_full_now, is_index, is_late, is_some, Joined, limits_of, List, may_fly, nat_le, nat_lt, None, Option, option_map, option_map_or, Public, refl, Refusal, Seen, seen_or_cut, SelectsFromOne, Session, Skeleton, skeleton, Some, Static, Stmt, sym, Tables, true, ℕ, ◌&&◌, ◌+◌, ◌∙◌, ◌≡◌}
+use Rattle.std.specs.Prelude.{not, bytes_eq}
+use Rattle.std.specs.Option.{is_none}
 use Rattle.ob_base.specs.declared.skeleton.Skeleton.TheVariants as K
-use Rattle.ob_base.specs.declared.skeleton.Source.TheVariants.{Table as OneTable, Join}
-use Rattle.ob_headline.specs.Flights.{may_fly}
-use Rattle.ob_mean.specs.Batches.{Gathering, and_one, batch_most, begins_batch, begun_by, gathering_after, goes_into, inserts_flat, inserts_into, is_unrefused, leaves_room}
+use Rattle.ob_base.specs.declared.skeleton.Source.TheVariants.{Table as OneTable}
+use Rattle.ob_mean.specs.Batches.{and_one, begun_by, gathering_after, goes_into, inserts_flat, is_unrefused, leaves_room}
 use Rattle.ob_mean.specs.Lawful.{HoldsLeaf, Lawful}
-use Rattle.ob_mean.specs.Refusals.{early_refusal, is_index, limits_of}
-use Rattle.ob_mean.specs.Replay.{Alone, CutAfter, CutWith, How, With, Session, after, drawn_by, draws_taken, has_index, is_access, is_full_now, seen_or_cut, settle_or_cut}
+use Rattle.ob_mean.specs.Replay.{Alone, CutAfter, CutWith, With, drawn_by, draws_taken, has_index, is_access, settle_or_cut}
 use Rattle.ob_mean.specs.Settle.{settle, settle_served, settled}
 use Rattle.ob_mean.specs.Step.{followed}
-use Rattle.ob_mean.specs.Verdict.{Accessed, Draws, Tables, accessed, accessed_now, gone, is_late, refusal}
-use Rattle.ob_script.specs.FlightLaws.{SelectsFromOne}
-use Rattle.ob_sql.specs.Skeleton.{skeleton}
-use Rattle.ob_sql.specs.declared.stmt.Stmt.{Stmt}
-use Rattle.ob_sql.specs.declared.stmt.Stmt.TheVariants.{Create, Insert, Update, Delete, Drop as DropTable, SelectRows as RowsStmt, SelectTotals as TotalsStmt}
-use Rattle.ob_verdict.proofs.AccessedProof.{access_public}
+use Rattle.ob_mean.specs.Verdict.{Accessed, accessed, accessed_now, gone, refusal}
+use Rattle.ob_sql.specs.declared.stmt.Stmt.TheVariants.{Insert, SelectRows as RowsStmt, SelectTotals as TotalsStmt}
 
 -- ---- by its outline
 not_so : (b : Bool) → not b ≡ true → b ≡ false

@@ -1,50 +1,19 @@
 -- What the engine was given and what it left.
-use Rattle.std.specs.Prelude.{IsErr, if◌then◌else◌}
-use Rattle.std.specs.Option.{option_map}
-use Rattle.std.proofs.Common.{ℕ, List, [], ◌∷◌, ◌++◌, ◌≡◌, ◌≤◌, Bool, Option, None, Result, Ok, Err, refl, sym, ap, ◌∙◌, inl, inr, subst, append-nil, arith, true, false}
-use Rattle.std.specs.Io.KnownBytes.{Appends}
-use Rattle.std.specs.Result.{is_err}
-use Rattle.ob_base.specs.Events.{Event}
-use Rattle.ob_base.specs.declared.config.Public.{Public}
+use Rattle.ob_shell.proofs.Words.{AfterCount, Agrees, ap, append-nil, Appends, AreDraws, arith, asked_of, begins_batch, Bool, by_fault, closing_line, Cut, Does, Draws, End, Err, Event, events_text, false, faults_of, Gathered, gathered_then, HasCause, held_headings, if◌then◌else◌, inl, inr, is_err, is_fault, Joined, List, Machine, may_fly, most_some, next, None, Ok, Option, option_map, Outcome, OutFailed, Outputs, Outputs-fault, Outputs-whole, PrintsUntil, Public, public_of, refl, Refused, Result, RevState, RunStop, Seen, seen_of, session_stop, Silenced, Skeleton, skeleton, Spells, standing, Static, Step, Stmt, StopCause, subst, sym, Tables, true, Whole, ℕ, [], ◌++◌, ◌∙◌, ◌∷◌, ◌≡◌, ◌≤◌}
+use Rattle.std.specs.Prelude.{IsErr}
 use Rattle.ob_base.specs.declared.refusal.Refusal.TheVariants.{Syntax}
-use Rattle.ob_base.specs.declared.seen.End.{End}
-use Rattle.ob_base.specs.declared.seen.End.TheVariants.{AfterCount, Cut, Joined, Static, Whole}
-use Rattle.ob_base.specs.declared.seen.Seen.{Seen}
-use Rattle.ob_base.specs.declared.skeleton.Skeleton.{Skeleton}
 use Rattle.ob_base.specs.declared.skeleton.Skeleton.TheVariants.{Create as CreateSkeleton, Delete as DeleteSkeleton, Drop as DropSkeleton, Groups, Insert as InsertSkeleton, Rows, Update as UpdateSkeleton}
 use Rattle.ob_script.specs.Tables.{tables_then}
-use Rattle.ob_script.specs.Trace.{next}
-use Rattle.ob_tables.specs.Agreeing.{Agrees, AreDraws, public_of, seen_of}
-use Rattle.ob_tables.specs.Running.{SinkStops, is_fault}
+use Rattle.ob_tables.specs.Running.{SinkStops}
 use Rattle.ob_tables.specs.Serving.{StopsEmission}
 use Rattle.ob_exec.specs.Ran.{Ran}
-use Rattle.ob_tables.specs.Stops.{session_stop}
-use Rattle.ob_verdict.specs.declared.outcome.Outcome.{Outcome}
-use Rattle.ob_verdict.specs.declared.outcome.Outcome.TheVariants.{Refused}
-use Rattle.ob_tables.specs.declared.stop.RunStop.{RunStop}
 use Rattle.ob_tables.specs.declared.stop.RunStop.TheVariants.{KeeperFault, NoMemory, SinkFault, StashFull, StoreFault, Tampered}
-use Rattle.ob_headline.specs.Closing.{closing_line}
-use Rattle.ob_headline.specs.Words.{faults_of}
-use Rattle.ob_headline.specs.Statements.{Spells}
-use Rattle.ob_headline.specs.Meaning.{PrintsUntil}
-use Rattle.ob_io.specs.Causes.{HasCause}
-use Rattle.ob_print.proofs.CutLemmas.{Outputs-fault, Outputs-more, Outputs-whole}
-use Rattle.ob_print.specs.Cuts.{Outputs}
-use Rattle.ob_print.specs.Rows.{events_text}
+use Rattle.ob_print.proofs.CutLemmas.{Outputs-more}
 use Rattle.ob_shell.proofs.CountLemmas.{rises_earlier, rises_later}
-use Rattle.ob_shell.specs.Running.{OutFailed, Silenced, StopCause}
-use Rattle.ob_mean.proofs.BatchLemmas.{most_some}
-use Rattle.ob_headline.specs.Flights.{gathered_then, may_fly}
-use Rattle.ob_mean.specs.Batches.{and_one, begins_batch, begun_by}
-use Rattle.ob_mean.specs.Verdict.{Draws, Tables}
+use Rattle.ob_mean.specs.Batches.{and_one, begun_by}
 use Rattle.ob_shell.specs.Lines.{line_answer}
-use Rattle.ob_shell.specs.Steps.{Does, Gathered, HasBody, IsApartFrom, Machine, Owes, ServedStatement, Step, StopsIn, asked_of, gathered_by, none_gathered, standing}
-use Rattle.ob_sql.specs.Skeleton.{skeleton}
-use Rattle.ob_tables.proofs.HeldLemmas.{held_headings}
+use Rattle.ob_shell.specs.Steps.{HasBody, IsApartFrom, Owes, ServedStatement, StopsIn, gathered_by, none_gathered}
 use Rattle.ob_tables.specs.Telling.{Kept, Meant, ReadsTrue}
-use Rattle.ob_verdict.specs.Outcomes.{by_fault}
-use Rattle.ob_sql.specs.declared.stmt.Stmt.{Stmt}
-use Rattle.ob_vault.specs.State.{RevState}
 
 module _ {R E : Type 0} (state : R → RevState) (grew cut : E → E → List Event → Type 0) (faults : E → ℕ)
     (m0 m1 : Machine R) (out_old out_new : E) (stmt : Stmt) (agrees : Agrees state m0.engine m0.store)

@@ -1,31 +1,13 @@
 -- How a session ends behind its reading, once those that waited were served.
+use Rattle.ob_shell.proofs.Words.{ap, arith, asked_of, batch_most, begins, Bool, Err, false, Faults, faults_of, Fetch, FlightSettings, inl, inr, length, List, Machine, most_flown, Option, option_map_or, Public, public_of, refl, Result, RevState, Rises, RunStop, ServesAlone, session_stop, Silenced, standing, Stmt, Stop, StopCause, subst, sym, Tally, true, ℕ, [], ◌+◌, ◌-◌, ◌∙◌, ◌∷◌, ◌≡◌, ◌≢◌, ◌⊎◌}
 use Rattle.std.specs.Prelude.{max, min}
-use Rattle.std.specs.Option.{option_map_or}
-use Rattle.std.proofs.Common.{length, ◌≡◌, ◌≢◌, ◌⊎◌, ◌-◌, ◌+◌, inl, inr, ℕ, Bool, true, false, List, [], ◌∷◌, Option, Result, Err, refl, sym, ap, ◌∙◌, subst, arith}
-use Rattle.ob_base.specs.Counts.{Rises}
-use Rattle.ob_base.specs.declared.config.Public.{Public}
-use Rattle.ob_base.specs.declared.refusal.Stop.{Stop}
 use Rattle.ob_base.specs.declared.refusal.Stop.TheVariants as Stops
-use Rattle.ob_gen.specs.declared.tally.Tally.{Tally}
 use Rattle.ob_headline.specs.Status.{StaysAlone}
-use Rattle.ob_headline.specs.Words.{Faults, faults_of}
-use Rattle.ob_mean.proofs.BatchLemmas.{begins}
-use Rattle.ob_mean.specs.Batches.{batch_most}
 use Rattle.ob_shell.proofs.CountLemmas.{rises_earlier}
-use Rattle.ob_headline.specs.Flights.{most_flown}
-use Rattle.ob_headline.specs.declared.flight.FlightSettings.{FlightSettings}
 use Rattle.ob_shell.proofs.WaitLemmas.{steps_flown, steps_most}
-use Rattle.ob_shell.specs.Feeding.{Fetch}
-use Rattle.ob_shell.specs.Running.{ServesAlone, Silenced, StopCause}
 use Rattle.ob_shell.specs.Serving.{HasRead}
-use Rattle.ob_shell.specs.Steps.{Machine, asked_of, standing}
 use Rattle.ob_shell.specs.Waiting.{AreWaiting}
-use Rattle.ob_sql.specs.declared.stmt.Stmt.{Stmt}
-use Rattle.ob_tables.specs.Agreeing.{public_of}
-use Rattle.ob_tables.specs.Stops.{session_stop}
-use Rattle.ob_tables.specs.declared.stop.RunStop.{RunStop}
 use Rattle.ob_tables.specs.declared.stop.RunStop.TheVariants as Runs
-use Rattle.ob_vault.specs.State.{RevState}
 
 -- the count of the source's faults stays or rises
 pub source_later : (T Alone : Type 0) (stop : Stop) (old new : Faults) → StopCause {T = T} Alone old new (Err stop) → (new.source ≡ old.source) ⊎ Rises old.source new.source

@@ -1,5 +1,5 @@
 -- What a server refers to stays.
-use Rattle.std.proofs.Common.{ℕ, refl, ◌∙◌}
+use Rattle.ob_shell.proofs.Words.{refl, ℕ, ◌∙◌}
 use Rattle.ob_shell.specs.Servers.{KeepsServer}
 use Rattle.ob_shell.specs.declared.session.Server.{Server}
 

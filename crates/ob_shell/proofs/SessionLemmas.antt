@@ -1,63 +1,34 @@
 -- A session that goes on from a base, and the closing behind it.
-use Rattle.std.specs.Prelude.{IfOk, MatchBool, drop}
-use Rattle.std.specs.List.{All}
-use Rattle.std.proofs.Common.{◌≡◌, ℕ, ◌+◌, ◌≤◌, ◌<◌, ◌^◌, ◌⊎◌, Bool, true, false, List, [], ◌∷◌, ◌++◌, length, take, Option, None, Some, IsTrue, Ok, Err, Result, refl, sym, ap, ◌∙◌, subst, inl, inr, arith, append-nil, append_assoc}
-use Rattle.std.proofs.KnownBytes.{Appends-nil, Consumes-nil}
-use Rattle.std.proofs.lemmas.Bool.{cases_lt}
-use Rattle.std.specs.Io.KnownBytes.{IsAtEnd}
-use Rattle.ob_base.specs.Counts.{Rises}
-use Rattle.ob_base.specs.declared.access.Access.{Access}
-use Rattle.ob_base.specs.declared.access.Access.TheVariants.{Read}
-use Rattle.ob_base.specs.declared.config.Config.{Config}
-use Rattle.ob_base.specs.declared.config.Public.{Public}
-use Rattle.ob_reopen.specs.declared.mark.Mark.{Mark}
-use Rattle.ob_base.specs.declared.refusal.Stop.{Stop}
-use Rattle.ob_base.specs.declared.refusal.Stop.TheVariants.{Tampered, SourceFault, SinkFault, NoMemory, InputLimit, StoreFault, StashFull, KeeperFault}
-use Rattle.ob_tables.specs.Agreeing.{Agrees, engine_keys, first_draws, engine_start, indexes_of, opened_from, public_of, high_of, rows_of, world_of}
+use Rattle.ob_shell.proofs.Words.{Access, Agrees, All, Answer, AnsweredBut, ap, append-nil, append_assoc, Appends-nil, AreByRegion, arith, asked_of, Base, batch_most, before_read, Begins, Bool, cases_lt, CloseErr, Closing, Config, cut_off, Draws, drop, earlier, empty_tally, Ending, EndsBy, EndsUntampered, Engine, engine_keys, engine_start, Err, false, Fetch, first_draws, flagged, Flights, flights_at, FromEach, has_refused, high_of, IfOk, indexes_of, inl, inr, IsAtEnd, IsHonest, IsTrue, KeeperState, KeptEnding, KeySet, LastPart, length, Lie, List, LosesSome, Machine, machine_of, Mark, most_flown, most_some, None, Ok, opened_from, Option, Outputs-whole, pair_of, Plain, Public, public_of, Read, refl, Represents, RestsOn, Result, RevState, Rises, RisesBy, rows_of, Seat, Session, session_of, session_stop, SessionRan, Since, skeleton, Some, standing, Start, statements, Stop, StoreState, Story, subst, sym, Tables, take, Tally, Traced, true, World, world_of, ℕ, [], ◌++◌, ◌+◌, ◌<◌, ◌^◌, ◌∙◌, ◌∷◌, ◌≡◌, ◌≤◌, ◌⊎◌}
+use Rattle.std.specs.Prelude.{MatchBool}
+use Rattle.std.proofs.KnownBytes.{Consumes-nil}
+use Rattle.ob_base.specs.declared.refusal.Stop.TheVariants.{Tampered, StoreFault, KeeperFault}
 use Rattle.ob_tables.specs.Closing.{ClosesEngine, closing_script, next_closing}
 use Rattle.ob_reopen.specs.Closed.{IsClosedAs, StaysInUse, is_used_up}
 use Rattle.ob_reopen.specs.Resting.{AcceptsClosings, Rests, by_name}
 use Rattle.ob_select.specs.Selecting.{AcceptsRows}
-use Rattle.ob_tables.specs.Stops.{session_stop}
-use Rattle.ob_tables.specs.Telling.{Represents}
-use Rattle.ob_tables.specs.declared.engine.Engine.{Engine}
-use Rattle.ob_gen.specs.Tally.{empty_tally}
-use Rattle.ob_gen.specs.declared.tally.Tally.{Tally}
 use Rattle.ob_headline.proofs.BaseLemmas.{from_each}
 use Rattle.ob_headline.proofs.PromptLemmas.{all_answered, prompt_all}
 use Rattle.ob_headline.proofs.TextLemmas.{rest_of-nil, texts_of-nil}
-use Rattle.ob_headline.specs.Batches.{AnsweredBut}
-use Rattle.ob_headline.specs.Bases.{Base, FromEach, Opened, drawing, session_at, start}
+use Rattle.ob_headline.specs.Bases.{Opened, drawing, session_at, start}
 use Rattle.ob_headline.specs.Disturbed.{MeantUntil, meant_entries, meant_trace}
-use Rattle.ob_headline.specs.Flights.{AreEntries, AreGathered, EndedBy, Entered, GoesOn, Seat, after_entries, most_flown, most_of, public_after, public_whole, seats, seats_of, trace_of, whole_of, words_of}
+use Rattle.ob_headline.specs.Flights.{AreEntries, AreGathered, EndedBy, Entered, GoesOn, after_entries, most_of, public_after, public_whole, seats, seats_of, trace_of, whole_of, words_of}
 use Rattle.ob_headline.specs.FullStash.{ReadsFullStash}
-use Rattle.ob_headline.specs.Failures.{FailsBeside, RisesBy, cut_off}
+use Rattle.ob_headline.specs.Failures.{FailsBeside}
 use Rattle.ob_headline.specs.Leaves.{AreDrawn}
 use Rattle.ob_headline.specs.Keeping.{EndsWith, Writes, closing_behind, last_script, region_opened}
 use Rattle.ob_headline.specs.KeptHeadline.{ClosesTables, PassesBoth}
 use Rattle.ob_headline.specs.Texts.{texts_in}
-use Rattle.ob_headline.specs.Words.{Answer, Begins, IsHonest, before_read, rows_in}
+use Rattle.ob_headline.specs.Words.{rows_in}
 use Rattle.ob_headline.specs.Accesses.{AreSeen, LeavesAloft, StopsWithin, cut_aloft}
 use Rattle.ob_headline.specs.Meaning.{AnswersFrom, session_after}
-use Rattle.ob_headline.specs.Statements.{statements}
 use Rattle.ob_headline.specs.SavedHeadline.{CountsKeeper, LeavesSaved}
 use Rattle.ob_headline.specs.Sealing.{IsSealed, IsSealedAt, IsWriteTo, PassesFrom, PassesHere, PassesRows, PassesSaved, PassesWith, SealsOwn}
 use Rattle.ob_headline.specs.Status.{EndsAtRead}
-use Rattle.ob_headline.specs.declared.ending.Ending.{Ending}
 use Rattle.ob_headline.specs.declared.ending.Ending.TheVariants.{Ran as RanEnding}
-use Rattle.ob_headline.specs.declared.ending.KeptEnding.{KeptEnding}
-use Rattle.ob_headline.specs.declared.ending.KeptEnding.TheVariants.{Plain}
-use Rattle.ob_mean.proofs.BatchLemmas.{most_some}
-use Rattle.ob_mean.specs.Batches.{batch_most}
-use Rattle.ob_mean.specs.Replay.{Broken, Session}
-use Rattle.ob_mean.specs.Verdict.{Draws, Tables}
-use Rattle.ob_print.proofs.CutLemmas.{Outputs-whole}
-use Rattle.ob_reopen.specs.Keepers.{KeeperState}
-use Rattle.ob_reopen.specs.declared.closing.Closing.{Closing}
-use Rattle.ob_reopen.specs.declared.fault.CloseErr.{CloseErr}
+use Rattle.ob_mean.specs.Replay.{Broken}
 use Rattle.ob_script.specs.Flights.{trace_in}
 use Rattle.ob_script.specs.Trace.{Served}
-use Rattle.ob_seal.specs.KeySet.{KeySet, pair_of}
 use Rattle.ob_seal.specs.Sealed.{sealed}
 use Rattle.ob_shell.proofs.CalmLemmas.{MeetsChange, last_met, steps_calm}
 use Rattle.ob_shell.proofs.LastingLemmas.{HasSizes, steps_sizes, last_rows, steps_sealed, last_sealed, steps_tell, none_sealed}
@@ -81,26 +52,18 @@ use Rattle.ob_shell.proofs.WalkEntries.{most_at, seats_at}
 use Rattle.ob_shell.proofs.WalkLast.{last_walk}
 use Rattle.ob_shell.proofs.WalkLemmas.{EndsWhole, Walked}
 use Rattle.ob_shell.proofs.WalkWhole.{walked}
-use Rattle.ob_shell.specs.Feeding.{Fetch}
-use Rattle.ob_shell.specs.Leaving.{AreByRegion, RestsOn}
-use Rattle.ob_shell.specs.Flying.{flights_at}
-use Rattle.ob_shell.specs.Running.{EndsBy, SessionRan, LastPart}
 use Rattle.ob_shell.specs.Standing.{IsUsed, StandsOn}
-use Rattle.ob_shell.specs.Steps.{Flights, Holds, Machine, asked_of, machine_of, none_gathered, session_of, standing}
-use Rattle.ob_shell.specs.Tallies.{TallyIs, flagged, has_refused, tally_of}
-use Rattle.ob_shell.specs.Top.{EndsUntampered, LosesSome, TraceSink, Carried, RanAfter}
-use Rattle.ob_shell.specs.Traces.{Traced}
+use Rattle.ob_shell.specs.Steps.{Holds, none_gathered}
+use Rattle.ob_shell.specs.Tallies.{TallyIs, tally_of}
+use Rattle.ob_shell.specs.Top.{TraceSink, Carried, RanAfter}
 use Rattle.ob_store.proofs.Steps.{since_trans}
-use Rattle.ob_store.specs.Runs.{Later, Since}
-use Rattle.ob_store.specs.State.{Lie, StoreState}
+use Rattle.ob_store.specs.Runs.{Later}
 use Rattle.ob_vault.specs.Numbers.{number_after}
-use Rattle.ob_vault.specs.State.{RevState, Start, VaultState, World, earlier}
+use Rattle.ob_vault.specs.State.{VaultState}
 use Rattle.ob_vault.specs.Tied.{AllSealed, EndsAt, TagFits, Scope, SealedAt, at_of, next_fault}
-use Rattle.ob_headline.specs.Story.{Story}
 use Rattle.ob_base.proofs.AccessLemmas.{makes_few, writes_few}
 use Rattle.ob_exec.proofs.ChangedScripts.{saved_saves}
 use Rattle.ob_exec.specs.Ran.{RunsOut}
-use Rattle.ob_sql.specs.Skeleton.{skeleton}
 
 -- each block of a live region is sealed
 sealed_at : (good : List ℕ → Bool) (v : VaultState) (first : ℕ) (s t : StoreState) (region place : ℕ) (block : List ℕ) (keys : KeySet) (start : Start) → v.start ≡ start → v.keys ≡ keys

@@ -1,33 +1,12 @@
 -- What the engine asks of a statement is a first part of all that is asked of it.
-use Rattle.std.specs.Prelude.{if◌then◌else◌, is_some}
-use Rattle.std.proofs.Common.{◌≡◌, ℕ, zero, suc, Bool, true, false, List, [], ◌∷◌, ◌++◌, Option, Some, None, take, refl, sym, ◌∙◌, ap, subst, append-nil, append_assoc}
-use Rattle.ob_base.specs.declared.access.Access.{Access}
-use Rattle.ob_base.specs.declared.access.Access.TheVariants.{Read}
-use Rattle.ob_base.specs.declared.config.Public.{Public}
-use Rattle.ob_base.specs.declared.refusal.Refusal.{Refusal}
-use Rattle.ob_base.specs.declared.schema.Heading.{Heading}
-use Rattle.ob_base.specs.declared.seen.End.{End}
-use Rattle.ob_base.specs.declared.seen.End.TheVariants.{Static, Whole, AfterCount, Joined, Cut}
-use Rattle.ob_base.specs.declared.seen.Seen.{Seen}
-use Rattle.ob_base.specs.declared.skeleton.Skeleton.{Skeleton}
+use Rattle.ob_shell.proofs.Words.{Access, AfterCount, Agrees, ap, append-nil, append_assoc, asked_of, Begins, Bool, Cut, Draws, early_refusal, End, false, Heading, held_headings, if◌then◌else◌, is_late, is_some, Joined, Lie, limits_of, List, Machine, None, Option, Public, public_of, Read, refl, Refusal, refusal_now, Represents, RevState, script, Seen, Skeleton, skeleton, Some, Static, Stmt, subst, suc, sym, Tables, take, true, Whole, whole_script, zero, ℕ, [], ◌++◌, ◌∙◌, ◌∷◌, ◌≡◌}
 use Rattle.ob_exec.proofs.ChangedScripts.{changes_flat, unsaved_whole, whole_saved}
-use Rattle.ob_headline.specs.Words.{Begins}
-use Rattle.ob_mean.specs.Refusals.{early_refusal, limits_of}
-use Rattle.ob_mean.specs.Verdict.{Draws, Tables, accessed, ended, is_late, seen, seen_served}
+use Rattle.ob_mean.specs.Verdict.{accessed, ended, seen, seen_served}
 use Rattle.ob_script.proofs.SavedParts.{whole_is}
 use Rattle.ob_script.specs.Saved.{left_by, run_script, whole_run}
-use Rattle.ob_script.specs.Script.{changes_tables, save_part, script, until_end, whole_script}
-use Rattle.ob_shell.specs.Steps.{Machine, asked_of}
-use Rattle.ob_sql.specs.Skeleton.{skeleton}
-use Rattle.ob_sql.specs.declared.stmt.Stmt.{Stmt}
-use Rattle.ob_store.specs.State.{Lie}
-use Rattle.ob_tables.proofs.HeldLemmas.{held_headings}
+use Rattle.ob_script.specs.Script.{changes_tables, save_part, until_end}
 use Rattle.ob_tables.proofs.TableLemmas.{tables_flat}
-use Rattle.ob_tables.specs.Agreeing.{Agrees, public_of}
-use Rattle.ob_tables.specs.Telling.{Represents}
-use Rattle.ob_vault.specs.State.{RevState}
 use Rattle.ob_vault.specs.Tied.{ReadsIn}
-use Rattle.ob_verdict.specs.Outcomes.{refusal_now}
 
 -- ---- first parts
 take_longer : (n : ℕ) (xs more : List Access) → Begins (take n xs) (take n (xs ++ more))

@@ -1,31 +1,17 @@
 -- What an engine stands on that was just started.
-use Rattle.std.proofs.Common.{◌≡◌, ℕ, List, [], length, Some, IsTrue, refl, sym, ap, subst, arith, Option, None, Bool, ◌≤◌}
-use Rattle.std.specs.List.{list_any}
-use Rattle.ob_base.specs.Publics.{first_public}
-use Rattle.ob_base.specs.declared.access.Access.{Access}
-use Rattle.ob_base.specs.declared.config.Config.{Config}
-use Rattle.ob_base.specs.declared.config.Public.{Public}
-use Rattle.ob_tables.specs.Agreeing.{Agrees, AreDraws, count_of, first_draws, engine_start, indexes_of, public_of, high_of, rows_of, world_of}
+use Rattle.ob_shell.proofs.Words.{Access, Agrees, ap, AreDraws, arith, Base, Bool, Config, count_of, earlier, Engine, engine_start, first_draws, first_public, FlightSettings, flying, fresh, FromEach, high_of, indexes_of, IsFresh, IsSteady, IsTrue, KeySet, length, List, list_any, machine_of, no_flights, None, Option, Public, public_of, refl, Represents, RevState, rows_of, Session, session_of, Some, StoreState, subst, sym, told_nothing, world_of, ℕ, [], ◌≡◌, ◌≤◌}
 use Rattle.ob_select.specs.Opening.{is_of_rows}
-use Rattle.ob_tables.specs.Telling.{AreHeld, Represents}
+use Rattle.ob_tables.specs.Telling.{AreHeld}
 use Rattle.ob_tables.specs.Engines.{AreTables, others_of}
-use Rattle.ob_tables.specs.declared.engine.Engine.{Engine}
-use Rattle.ob_headline.specs.Bases.{Base, FromEach, HoldsFrom, Opened, drawing, flying, fresh, start}
-use Rattle.ob_seal.specs.KeySet.{KeySet}
+use Rattle.ob_headline.specs.Bases.{HoldsFrom, Opened, drawing, start}
 use Rattle.ob_shell.proofs.CalmLemmas.{first_calm}
 use Rattle.ob_shell.proofs.LastingLemmas.{none_sealed}
 use Rattle.ob_shell.proofs.LeafLemmas.{no_indexes}
 use Rattle.ob_shell.specs.Standing.{IsUsed, StandsOn}
-use Rattle.ob_headline.specs.declared.flight.FlightSettings.{FlightSettings}
 use Rattle.ob_vault.specs.Tied.{AllSealed, Scope, next_fault}
-use Rattle.ob_mean.specs.Replay.{Session}
 use Rattle.ob_headline.specs.Sealing.{PassesFrom}
-use Rattle.ob_shell.specs.Steps.{machine_of, no_flights, session_of, told_nothing}
-use Rattle.ob_shell.specs.Top.{IsFresh}
-use Rattle.ob_store.specs.Calls.{IsSteady}
-use Rattle.ob_store.specs.State.{StoreState}
 use Rattle.ob_vault.proofs.WordLemmas.{earlier_nothing}
-use Rattle.ob_vault.specs.State.{RevState, earlier, from_nothing}
+use Rattle.ob_vault.specs.State.{from_nothing}
 
 -- from no tables
 nothing_held : {R : Type 0} (state : R → RevState) (first : Engine R) (s : StoreState) (config : Config) → public_of first ≡ first_public config → Represents state first s []

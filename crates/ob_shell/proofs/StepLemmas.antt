@@ -1,18 +1,9 @@
 -- Texts that are answered one after the other.
-use Rattle.std.proofs.Common.{◌≡◌, ℕ, List, [], ◌∷◌, ◌++◌, Bool, Option, Ok, Err, Result, refl, sym, ap, ◌∙◌, subst, inl, inr, append_assoc, append-nil}
-use Rattle.std.specs.Io.KnownBytes.{Appends}
-use Rattle.ob_base.specs.declared.refusal.Stop.{Stop}
+use Rattle.ob_shell.proofs.Words.{Answer, ap, append-nil, append_assoc, Appends, at_rest, Bool, CutTogether, Err, inl, inr, LastPart, List, Machine, more_together, Ok, one_more, Option, Outputs-whole, PartlyAt, printed, refl, Result, RevState, RunStop, session_stop, Step, Steps, StepTogether, Stop, subst, sym, Tally, ℕ, [], ◌++◌, ◌∙◌, ◌∷◌, ◌≡◌}
 use Rattle.ob_base.specs.declared.refusal.Stop.TheVariants.{SourceFault, InputLimit}
-use Rattle.ob_tables.specs.Stops.{session_stop}
-use Rattle.ob_tables.specs.declared.stop.RunStop.{RunStop}
 use Rattle.ob_tables.specs.declared.stop.RunStop.TheVariants as Runs
-use Rattle.ob_gen.specs.declared.tally.Tally.{Tally}
-use Rattle.ob_headline.specs.Words.{Answer, printed}
-use Rattle.ob_print.proofs.CutLemmas.{Outputs-whole}
 use Rattle.ob_shell.proofs.StopLemmas.{by_stop, stopped_as}
-use Rattle.ob_shell.specs.Running.{LastPart}
-use Rattle.ob_shell.specs.Steps.{AnswersText, CutStep, CutTogether, Machine, Step, StepTogether, Steps, Idle, IsUndone, PartlyAt, StopsIn, at_rest, more_together, one_more}
-use Rattle.ob_vault.specs.State.{RevState}
+use Rattle.ob_shell.specs.Steps.{AnswersText, CutStep, Idle, IsUndone, StopsIn}
 
 pub printed-append : (xs ys : List Answer) → printed (xs ++ ys) ≡ printed xs ++ printed ys
 unfolding printed

@@ -1,15 +1,9 @@
 -- Stops of the engine, and of the session.
-use Rattle.std.proofs.Common.{◌≡◌, Err, refl}
-use Rattle.ob_base.specs.declared.refusal.Stop.{Stop}
+use Rattle.ob_shell.proofs.Words.{EndsUntampered, Err, is_tampered, Ran, refl, RunStop, session_stop, Stop, ◌≡◌}
 use Rattle.ob_base.specs.declared.refusal.Stop.TheVariants.{Tampered, SourceFault, SinkFault, NoMemory, InputLimit, StoreFault, StashFull, KeeperFault}
-use Rattle.ob_tables.specs.Stops.{session_stop}
 use Rattle.ob_tables.specs.Telling.{IsNotTampered, is_refused}
-use Rattle.ob_tables.specs.declared.stop.RunStop.{RunStop}
 use Rattle.ob_tables.specs.declared.stop.RunStop.TheVariants as Runs
-use Rattle.ob_headline.specs.Endings.{is_tampered}
-use Rattle.ob_headline.specs.declared.ending.Ending.TheVariants.{Ran}
 use Rattle.ob_shell.specs.Running.{StoppedBy}
-use Rattle.ob_shell.specs.Top.{EndsUntampered}
 
 pub only_memory : (run : RunStop) → session_stop run ≡ NoMemory → run ≡ Runs.NoMemory
 only_memory Runs.NoMemory is = refl

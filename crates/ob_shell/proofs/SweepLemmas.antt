@@ -1,25 +1,15 @@
 -- A store gives up the regions that aren't live: an engine belongs to it as before, and what it holds stays.
-use Rattle.std.specs.Prelude.{slice_get}
-use Rattle.std.proofs.Common.{◌≡◌, ◌+◌, ℕ, Bool, List, [], Some, None, inl, inr, refl, sym, ◌∙◌, ap, subst, arith, append-nil}
+use Rattle.ob_shell.proofs.Words.{Access, Agrees, ap, append-nil, arith, Bool, Engine, inl, inr, IsRead, List, None, refl, Represents, RevState, slice_get, Some, StoreState, subst, sym, Table, Tables, World, world_of, ℕ, [], ◌+◌, ◌∙◌, ◌≡◌}
 use Rattle.ob_base.specs.Accesses.{AllBelow, makes, writes}
-use Rattle.ob_base.specs.declared.access.Access.{Access}
-use Rattle.ob_base.specs.declared.schema.Table.{Table}
-use Rattle.ob_mean.specs.Verdict.{Tables}
-use Rattle.ob_shell.specs.Leaving.{IsRead}
 use Rattle.ob_store.specs.Calls.{Sweeps}
 use Rattle.ob_store.specs.Runs.{Later}
-use Rattle.ob_store.specs.State.{StoreState}
 use Rattle.ob_tables.proofs.HeldLemmas.{held_kept}
 use Rattle.ob_tables.proofs.TableLemmas.{tables_kept}
-use Rattle.ob_tables.specs.Agreeing.{Agrees, world_of}
 use Rattle.ob_tables.specs.Engines.{others_of}
-use Rattle.ob_tables.specs.Telling.{Represents}
-use Rattle.ob_tables.specs.declared.engine.Engine.{Engine}
 use Rattle.ob_vault.proofs.Runs.{shapes_none}
 use Rattle.ob_vault.proofs.WorldSteps.{sealed_kept}
 use Rattle.ob_vault.specs.Calls.{Lasts}
 use Rattle.ob_vault.specs.Numbers.{WritesBehind, number_after}
-use Rattle.ob_vault.specs.State.{RevState, World}
 use Rattle.ob_vault.specs.Tied.{AllSealed, Calm, ReadsIn, Ready, Scope}
 use Rattle.ob_vault.specs.declared.region.Region.{Region}
 

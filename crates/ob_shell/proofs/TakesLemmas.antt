@@ -1,17 +1,9 @@
 -- Texts that are taken, part by part: some are answered, and some wait.
+use Rattle.ob_shell.proofs.Words.{ap, append-nil, append_assoc, Appends, AreSpelt, asked_of, Bool, closing_line, Engine, Err, false, Faults, Flights, Gathered, inl, inr, IsReady, KeeperState, List, Machine, machine_of, may_fly, None, Ok, Option, OutFailed, Outputs, Outputs-by, public_of, refl, Refused, Result, RevState, RunStop, Silenced, skeleton, Spells, standing, Stmt, Stop, stop_of, StopCause, StoreState, subst, sym, Tally, TextHalted, Took, Traced, TracedAll, true, ℕ, [], ◌++◌, ◌∙◌, ◌∷◌, ◌≡◌}
 use Rattle.std.specs.Prelude.{OnErr, OnOk}
-use Rattle.std.proofs.Common.{◌≡◌, inl, inr, ℕ, Bool, false, true, List, [], ◌∷◌, ◌++◌, Option, None, Result, Ok, Err, refl, sym, ap, ◌∙◌, subst, append_assoc, append-nil}
-use Rattle.std.specs.Io.KnownBytes.{Appends}
 use Rattle.ob_base.specs.declared.refusal.Refusal.TheVariants.{Syntax}
-use Rattle.ob_base.specs.declared.refusal.Stop.{Stop}
-use Rattle.ob_gen.specs.declared.tally.Tally.{Tally}
-use Rattle.ob_headline.specs.Closing.{closing_line}
-use Rattle.ob_headline.specs.Statements.{Spells}
 use Rattle.ob_headline.specs.Texts.{texts_at}
-use Rattle.ob_headline.specs.Words.{Faults, NoneRose, Took}
-use Rattle.ob_headline.specs.Flights.{may_fly}
-use Rattle.ob_print.proofs.CutLemmas.{Outputs-by}
-use Rattle.ob_print.specs.Cuts.{Outputs}
+use Rattle.ob_headline.specs.Words.{NoneRose}
 use Rattle.ob_shell.proofs.PlaceLemmas.{alone_free, none_free, single_closed}
 use Rattle.ob_shell.proofs.ServeLemmas.{misspelt}
 use Rattle.ob_shell.proofs.StepLemmas.{PartlyAt-more, Steps-none, counts_one, one_step, printed-nil}
@@ -19,26 +11,15 @@ use Rattle.ob_shell.proofs.TookLemmas.{traced_to_none}
 use Rattle.ob_shell.proofs.TraceLemmas.{traced_cut, traced_none, traced_then, traced_whole}
 use Rattle.ob_shell.proofs.WaitLemmas.{break_then, follow_more, none_held, so_idle, so_then}
 use Rattle.ob_shell.specs.Lines.{line_answer}
-use Rattle.ob_shell.specs.Running.{IsQuiet, OutFailed, Silenced, StopCause, halted_of, stop_of}
+use Rattle.ob_shell.specs.Running.{IsQuiet, halted_of}
 use Rattle.ob_shell.specs.Serving.{IsNotTaken, ServesStmt, TakesMore, TakesTexts, WantsRoom, counted_by}
 use Rattle.ob_shell.proofs.TallyLemmas.{tally_after-one}
-use Rattle.ob_reopen.specs.Keepers.{KeeperState}
-use Rattle.ob_shell.specs.Steps.{AnswersText, AreSpelt, Flights, Gathered, IsReady, Machine, StopsIn, asked_of, machine_of, none_gathered, standing}
-use Rattle.ob_store.specs.State.{StoreState}
-use Rattle.ob_tables.specs.declared.engine.Engine.{Engine}
+use Rattle.ob_shell.specs.Steps.{AnswersText, StopsIn, none_gathered}
 use Rattle.ob_shell.specs.Tallies.{tally_with}
-use Rattle.ob_shell.specs.Traces.{Traced, TracedAll}
 use Rattle.ob_shell.specs.Waiting.{AreWaiting, BreaksIn, IsClosed, IsFree, ServedSo, begins_flight}
 use Rattle.ob_shell.specs.declared.session.Break.{Break}
 use Rattle.ob_shell.specs.declared.session.Break.TheVariants.{Served, Unread}
-use Rattle.ob_shell.specs.declared.session.TextHalted.{TextHalted}
-use Rattle.ob_sql.specs.Skeleton.{skeleton}
-use Rattle.ob_sql.specs.declared.stmt.Stmt.{Stmt}
-use Rattle.ob_tables.specs.Agreeing.{public_of}
-use Rattle.ob_tables.specs.declared.stop.RunStop.{RunStop}
 use Rattle.ob_tables.specs.declared.stop.RunStop.TheVariants.{SinkFault}
-use Rattle.ob_vault.specs.State.{RevState}
-use Rattle.ob_verdict.specs.declared.outcome.Outcome.TheVariants.{Refused}
 
 -- ---- one part after the other
 same_faults : (old mid : Faults) → NoneRose old mid → mid ≡ old

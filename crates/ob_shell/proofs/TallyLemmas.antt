@@ -1,22 +1,13 @@
 -- What is counted of answers, one after the other.
-use Rattle.std.specs.Prelude.{IfOk, OnOk, nat_lt}
-use Rattle.std.proofs.Common.{◌≡◌, ℕ, ◌||◌, Bool, true, false, List, [], ◌∷◌, ◌++◌, Option, Some, None, Result, Ok, Err, refl, sym, ap, ◌∙◌, arith}
-use Rattle.std.proofs.lemmas.Bool.Decides.{nat_tests}
-use Rattle.ob_base.specs.declared.config.Plan.{Plan}
+use Rattle.ob_shell.proofs.Words.{Answer, ap, arith, Bool, empty_tally, Ending, EndingTally, Err, false, Faults, flagged, has_refused, IfOk, KeptEnding, List, nat_lt, nat_tests, None, Ok, Option, Plain, Plan, Ran, refl, Result, Some, Stop, stop_of, StopCause, sym, Tally, true, ℕ, [], ◌++◌, ◌||◌, ◌∙◌, ◌∷◌, ◌≡◌}
+use Rattle.std.specs.Prelude.{OnOk}
 use Rattle.ob_base.specs.declared.config.Plan.TheVariants.{Small, Large, Continuous, Hash}
-use Rattle.ob_base.specs.declared.refusal.Stop.{Stop}
 use Rattle.ob_base.specs.declared.refusal.Stop.TheVariants.{Tampered, SourceFault, SinkFault, NoMemory, InputLimit, StoreFault, StashFull, KeeperFault}
-use Rattle.ob_gen.specs.Tally.{empty_tally, one_if, raised, with_plan}
-use Rattle.ob_gen.specs.declared.tally.Tally.{Tally}
+use Rattle.ob_gen.specs.Tally.{one_if, raised, with_plan}
 use Rattle.ob_headline.specs.Closing.{is_refused}
-use Rattle.ob_headline.specs.Words.{Answer, Faults, any_refused}
-use Rattle.ob_headline.specs.declared.ending.Ending.{Ending}
-use Rattle.ob_headline.specs.declared.ending.Ending.TheVariants.{Ran}
-use Rattle.ob_headline.specs.declared.ending.KeptEnding.{KeptEnding}
-use Rattle.ob_headline.specs.declared.ending.KeptEnding.TheVariants.{Plain}
-use Rattle.ob_shell.specs.Running.{FlagIs, StopCause, stop_of}
-use Rattle.ob_shell.specs.Tallies.{TallyIs, flagged, has_refused, tally_after, tally_with}
-use Rattle.ob_shell.specs.Top.{EndingTally}
+use Rattle.ob_headline.specs.Words.{any_refused}
+use Rattle.ob_shell.specs.Running.{FlagIs}
+use Rattle.ob_shell.specs.Tallies.{TallyIs, tally_after, tally_with}
 use Rattle.ob_shell.specs.declared.session.Halted.{Halted}
 
 pub tally_after-nil : (t : Tally) → tally_after t [] ≡ t

@@ -1,14 +1,7 @@
 -- What sinks took, one part after the other.
-use Rattle.std.proofs.Common.{ℕ, ◌⊎◌, Bool, List, [], ◌++◌, Option, sym, ap, ◌∙◌, subst, inl, inr, append_assoc, append-nil}
-use Rattle.std.proofs.KnownBytes.{Appends-trans}
-use Rattle.std.proofs.lemmas.List.{append_cancel_left}
-use Rattle.std.specs.Io.KnownBytes.{Appends}
-use Rattle.ob_base.specs.declared.access.Access.{Access}
-use Rattle.ob_headline.specs.Tracing.{traced}
-use Rattle.ob_headline.specs.Words.{Took}
-use Rattle.ob_print.specs.Cuts.{Outputs}
+use Rattle.ob_shell.proofs.Words.{Access, ap, append-nil, append_assoc, append_cancel_left, Appends, Appends-trans, Bool, inl, inr, List, Option, Outputs, subst, sym, Took, traced, TracedAll, ℕ, [], ◌++◌, ◌∙◌, ◌⊎◌}
 use Rattle.ob_shell.proofs.TraceLemmas.{traced-append, traced-nil}
-use Rattle.ob_shell.specs.Traces.{TracedAll, TracedTo, Traces}
+use Rattle.ob_shell.specs.Traces.{TracedTo, Traces}
 
 -- ---- what a sink took
 pub took_whole : {w0 w1 : Option (List ℕ)} {bytes : List ℕ} → Appends w0 w1 bytes → Took w0 w1 bytes

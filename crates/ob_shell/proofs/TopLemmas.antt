@@ -1,42 +1,23 @@
 -- The whole run, from its first line and its session.
-use Rattle.std.specs.Prelude.{IfOk, drop}
-use Rattle.std.proofs.Common.{◌≡◌, ◌≢◌, ◌⊎◌, ℕ, ◌≤◌, ◌==◌, Bool, true, false, List, [], ◌∷◌, ◌++◌, length, take, Option, Some, IsTrue, Ok, Err, Result, refl, sym, ap, ◌∙◌, subst, inl, inr, arith, append-nil, length-append}
-use Rattle.std.proofs.KnownBytes.{Appends-nil, Consumes-trans, Consumes-nil}
-use Rattle.std.specs.Io.KnownBytes.{Appends}
-use Rattle.std.specs.List.{list_any}
-use Rattle.ob_base.specs.Counts.{Rises}
-use Rattle.ob_base.specs.declared.access.Access.{Access}
-use Rattle.ob_base.specs.declared.config.Config.{Config}
-use Rattle.ob_base.specs.declared.config.Public.{Public}
-use Rattle.ob_base.specs.declared.refusal.Stop.{Stop}
+use Rattle.ob_shell.proofs.Words.{Access, All-nil, ap, append-nil, Appends, Appends-nil, arith, BadKey, Base, batch_most, before_read, Begins, Bool, Config, cut_off, drop, Ending, EndingTally, EndsBy, EndsUntampered, Err, false, Faults, Fed, Fetch, FirstLine, flagged, FlightSettings, flying, fresh, Halt, IfOk, inl, inr, IsFedBy, IsFresh, IsTrue, KeyRead, KeySet, last_line, length, length-append, limit_of, List, list_any, LosesSome, most_some, Ok, Option, Outputs, Outputs-after, Outputs-fault, Outputs-whole, printed, Public, refl, Result, RevState, Rises, Seat, SinksRose, Some, SpellFirst, statements, Stop, StoreState, subst, sym, take, Tally, Took, traced, true, Usage, ℕ, [], ◌++◌, ◌∙◌, ◌∷◌, ◌≡◌, ◌≢◌, ◌≤◌, ◌⊎◌}
+use Rattle.std.proofs.Common.{◌==◌}
+use Rattle.std.proofs.KnownBytes.{Consumes-trans, Consumes-nil}
 use Rattle.ob_base.specs.declared.refusal.Stop.TheVariants.{Tampered, SourceFault, SinkFault, NoMemory, InputLimit, StoreFault, StashFull, KeeperFault}
 use Rattle.ob_select.specs.Opening.{is_of_rows}
-use Rattle.ob_gen.specs.declared.tally.Tally.{Tally}
 use Rattle.ob_headline.proofs.FlatLemmas.{start_flat}
 use Rattle.ob_headline.proofs.PromptLemmas.{all_answered, prompt_all, prompt_line, waits_behind}
 use Rattle.ob_headline.proofs.TextLemmas.{rest_of-nil, texts_of-nil}
-use Rattle.std.proofs.lemmas.List.Elements.{All-nil}
-use Rattle.ob_headline.specs.Bases.{Base, flying, fresh, start}
+use Rattle.ob_headline.specs.Bases.{start}
 use Rattle.ob_headline.specs.Disturbed.{MeantUntil, meant_entries}
-use Rattle.ob_headline.specs.Flights.{AreEntries, AreGathered, EndedBy, GoesOn, Seat, most_of, public_whole, seats, seats_of, served_by, whole_of as entries_whole}
-use Rattle.ob_headline.specs.declared.flight.FlightSettings.{FlightSettings}
-use Rattle.ob_headline.specs.Endings.{last_line}
-use Rattle.ob_headline.specs.Failures.{cut_off, failures}
+use Rattle.ob_headline.specs.Flights.{AreEntries, AreGathered, EndedBy, GoesOn, most_of, public_whole, seats, seats_of, served_by, whole_of as entries_whole}
+use Rattle.ob_headline.specs.Failures.{failures}
 use Rattle.ob_headline.specs.KeyLine.{has_lf, first_line, after_line, secret_of}
-use Rattle.ob_headline.specs.Settings.{limit_of}
 use Rattle.ob_headline.specs.Texts.{is_over, rest_of, texts_of, texts_in}
-use Rattle.ob_headline.specs.Tracing.{traced}
-use Rattle.ob_headline.specs.Words.{Begins, Faults, SinksRose, Took, before_read, printed}
-use Rattle.ob_headline.specs.Statements.{SpellFirst, statements}
 use Rattle.ob_headline.specs.Accesses.{AreSeen, any_cut, ends_within}
 use Rattle.ob_headline.specs.Meaning.{AnswersFrom}
 use Rattle.ob_headline.specs.Status.{HasSecret, StaysAlone}
-use Rattle.ob_headline.specs.declared.ending.Ending.{Ending}
-use Rattle.ob_headline.specs.declared.ending.Ending.TheVariants.{Usage, BadKey, Ran as RanEnding}
-use Rattle.ob_mean.proofs.BatchLemmas.{most_some}
-use Rattle.ob_mean.specs.Batches.{batch_most}
-use Rattle.ob_print.proofs.CutLemmas.{Outputs-whole, Outputs-after, Outputs-fault, Outputs-more}
-use Rattle.ob_print.specs.Cuts.{Outputs}
+use Rattle.ob_headline.specs.declared.ending.Ending.TheVariants.{Ran as RanEnding}
+use Rattle.ob_print.proofs.CutLemmas.{Outputs-more}
 use Rattle.ob_script.specs.Flights.{trace_in}
 use Rattle.ob_shell.proofs.CountLemmas.{rises_earlier, rises_later}
 use Rattle.ob_shell.proofs.DisturbLemmas.{take_begins}
@@ -45,20 +26,12 @@ use Rattle.ob_shell.proofs.TookLemmas.{took_more, took_whole}
 use Rattle.ob_shell.proofs.StepLemmas.{printed-nil}
 use Rattle.ob_shell.proofs.TallyLemmas.{any_refused-nil, flag_by, tally_by}
 use Rattle.ob_shell.proofs.TraceLemmas.{traced-nil}
-use Rattle.ob_shell.specs.Feeding.{Fetch, Fed, IsFedBy}
-use Rattle.ob_shell.specs.LineRead.{KeyRead}
-use Rattle.ob_shell.specs.Running.{EndsBy}
-use Rattle.ob_shell.specs.Tallies.{flagged, tally_of}
-use Rattle.ob_shell.specs.Top.{EndingTally, EndsUnfaulted, EndsUntampered, IsFresh, LosesSome, TraceSink, RanSays, EndingSays, EndingWords, Carried, RunShown, RanAfter, EndingCause, EndingFlag, StatusCause}
-use Rattle.ob_shell.specs.declared.feed.Halt.{Halt}
-use Rattle.ob_shell.specs.declared.key.FirstLine.{FirstLine}
+use Rattle.ob_shell.specs.Tallies.{tally_of}
+use Rattle.ob_shell.specs.Top.{EndsUnfaulted, TraceSink, RanSays, EndingSays, EndingWords, Carried, RunShown, RanAfter, EndingCause, EndingFlag, StatusCause}
 use Rattle.ob_shell.specs.declared.key.FirstLine.TheVariants.{Secret, Last, Bad}
 use Rattle.ob_store.proofs.Steps.{since_refl}
-use Rattle.ob_store.specs.State.{StoreState}
-use Rattle.ob_vault.specs.State.{RevState}
 use Rattle.ob_headline.specs.Story.{unserved}
 use Rattle.ob_headline.specs.Prompt.{Prompt}
-use Rattle.ob_seal.specs.KeySet.{KeySet}
 
 -- ---- more bytes after the first line
 

@@ -1,17 +1,12 @@
 -- The text of accesses, one after the other.
-use Rattle.std.specs.Prelude.{slice_get}
-use Rattle.std.proofs.Common.{◌≡◌, inr, ℕ, ◌+◌, ◌≤◌, Bool, true, false, suc, List, [], ◌∷◌, ◌++◌, length, drop, take, Option, Some, refl, sym, ap, ◌∙◌, subst, append_assoc, append-nil, drop-cons, add-one}
-use Rattle.std.proofs.KnownBytes.{Appends-nil, Appends-trans}
+use Rattle.ob_shell.proofs.Words.{Access, ap, append-nil, append_assoc, Appends-nil, Appends-trans, Bool, drop, false, inr, length, List, Option, Outputs-after, Outputs-whole, refl, slice_get, Some, subst, suc, sym, take, Traced, traced, TracedAll, true, ℕ, [], ◌++◌, ◌+◌, ◌∙◌, ◌∷◌, ◌≡◌, ◌≤◌}
+use Rattle.std.proofs.Common.{drop-cons, add-one}
 use Rattle.std.proofs.Math.ListN.{drop_of_length-le}
 use Rattle.std.proofs.Math.Seq.{drop-append_seam}
 use Rattle.std.proofs.lemmas.List.{take_at}
 use Rattle.std.proofs.lemmas.Option.{slice_get_within, get_or_from_slice_get}
-use Rattle.ob_base.specs.declared.access.Access.{Access}
-use Rattle.ob_headline.specs.Tracing.{traced}
-use Rattle.ob_print.proofs.CutLemmas.{Outputs-after, Outputs-whole}
 use Rattle.ob_print.proofs.TraceText.{trace_text-append}
 use Rattle.ob_print.specs.Lines.{access_line, trace_text}
-use Rattle.ob_shell.specs.Traces.{Traced, TracedAll}
 
 pub trace_text-nil : trace_text [] ≡ []
 unfolding trace_text

@@ -1,46 +1,23 @@
 -- Texts that are served while others wait, one part after the other.
-use Rattle.std.specs.Prelude.{IsSome, map}
-use Rattle.std.proofs.Common.{◌≡◌, ◌⊎◌, inl, inr, ℕ, Bool, true, List, [], ◌∷◌, ◌++◌, length, Option, None, Some, Result, Ok, Err, refl, sym, ap, ◌∙◌, subst, arith, append_assoc, length-append}
-use Rattle.std.proofs.KnownBytes.{Appends-nil, Appends-trans}
-use Rattle.std.proofs.lemmas.List.Elements.{All-cons, All-head, All-tail, All-weaker}
-use Rattle.std.specs.List.{All}
-use Rattle.ob_base.specs.declared.config.Public.{Public}
-use Rattle.ob_base.specs.declared.refusal.Stop.{Stop}
+use Rattle.ob_shell.proofs.Words.{All, All-cons, All-head, All-tail, All-weaker, AllInsert, Answer, AnsweredBut, ap, append_assoc, Appends-nil, Appends-trans, AreSpelt, arith, at_rest, batch_most, Begins, begins, Bool, EndsBy, Err, Fetch, flagged, FlightSettings, Gathered, inl, inr, inserts_into, LastPart, length, length-append, List, Machine, map, may_fly, more_together, most_flown, most_some, None, Ok, one_more, Option, Outputs, Outputs-after, printed, Public, public_of, refl, Result, RevState, RunStop, seen_of, SelectsFromOne, skeleton, Some, SpellFirst, Spells, standing, statements_of, Step, Steps, Stmt, Stop, subst, sym, Table, Tally, TracedAll, true, ℕ, [], ◌++◌, ◌∙◌, ◌∷◌, ◌≡◌, ◌⊎◌}
+use Rattle.std.specs.Prelude.{IsSome}
 use Rattle.ob_base.specs.declared.refusal.Stop.TheVariants as Stops
-use Rattle.ob_base.specs.declared.schema.Table.{Table}
-use Rattle.ob_gen.specs.declared.tally.Tally.{Tally}
 use Rattle.ob_headline.proofs.PromptLemmas.{all_answered, none_waits}
 use Rattle.ob_headline.proofs.SameEntries.{may_by, selects_one, selects_stay}
-use Rattle.ob_headline.specs.Batches.{AllInsert, AnsweredBut, Wait}
-use Rattle.ob_headline.specs.Flights.{WaitToFly, may_fly, most_flown}
-use Rattle.ob_headline.specs.declared.flight.FlightSettings.{FlightSettings}
-use Rattle.ob_headline.specs.Statements.{SpellFirst, Spells}
-use Rattle.ob_headline.specs.Words.{Answer, Begins, printed}
-use Rattle.ob_mean.proofs.BatchLemmas.{begins, most_some}
-use Rattle.ob_mean.specs.Batches.{batch_most, inserts_into}
+use Rattle.ob_headline.specs.Batches.{Wait}
+use Rattle.ob_headline.specs.Flights.{WaitToFly}
 use Rattle.ob_parse.proofs.GoodStatements.{good_statement}
-use Rattle.ob_print.proofs.CutLemmas.{Outputs-after}
-use Rattle.ob_print.specs.Cuts.{Outputs}
 use Rattle.ob_shell.proofs.TookLemmas.{took_after, traced_on}
 use Rattle.ob_shell.proofs.StepLemmas.{PartlyAt-none, Steps-append, Steps-none, printed-append, printed-nil}
 use Rattle.ob_shell.proofs.TallyLemmas.{tally_after-nil, tally_more}
-use Rattle.ob_shell.specs.Feeding.{Fetch}
-use Rattle.ob_shell.specs.Running.{EndsBy, LastPart}
 use Rattle.ob_shell.specs.Serving.{EndsReading, ended_with}
-use Rattle.ob_script.specs.FlightLaws.{SelectsFromOne}
-use Rattle.ob_shell.specs.Steps.{AreSpelt, Follow, Gathered, Machine, Owed, Step, Steps, at_rest, more_together, one_more, standing, statements_of}
-use Rattle.ob_shell.specs.Tallies.{TallyIs, flagged}
-use Rattle.ob_shell.specs.Traces.{TracedAll}
+use Rattle.ob_shell.specs.Steps.{Follow, Owed}
+use Rattle.ob_shell.specs.Tallies.{TallyIs}
 use Rattle.ob_shell.specs.Waiting.{AreWaiting, AwaitsFlown, AwaitsMore, BreaksIn, ServedSo}
-use Rattle.ob_sql.specs.Skeleton.{skeleton}
-use Rattle.ob_sql.specs.declared.stmt.Stmt.{Stmt}
-use Rattle.ob_tables.specs.Agreeing.{public_of, seen_of}
 use Rattle.ob_tables.specs.Batch.{InsertAlike}
-use Rattle.ob_tables.specs.declared.stop.RunStop.{RunStop}
 use Rattle.ob_tables.specs.declared.stop.RunStop.TheVariants as Runs
 use Rattle.ob_token.specs.Tokens.{tokens_of}
 use Rattle.ob_token.specs.declared.token.Token.{Token}
-use Rattle.ob_vault.specs.State.{RevState}
 
 -- ---- texts that were served
 -- none was: those that waited still do

@@ -1,21 +1,10 @@
 -- How the statements of some texts are served from a machine on, each alone, or several together.
-use Rattle.std.specs.Prelude.{◌-◌, if◌then◌else◌, nat_le, take}
-use Rattle.std.specs.List.{All}
-use Rattle.std.proofs.Common.{◌≡◌, ◌+◌, ◌<◌, ◌++◌, inl, inr, ℕ, suc, Bool, true, false, List, [], ◌∷◌, length, Option, Some, None, Ok, Err, refl, sym, ◌∙◌, ap, subst, arith}
-use Rattle.std.proofs.lemmas.List.Elements.{All-cons, All-nil}
-use Rattle.ob_base.specs.declared.access.Access.{Access}
-use Rattle.ob_base.specs.declared.seen.Seen.{Seen}
-use Rattle.ob_headline.specs.Flights.{AreEntries, AreGathered, EndedBy, MayFly as FlyMay, Seat, gathered_then, most_flown, place_now, seat_alone, seats, served_by, whole_of}
-use Rattle.ob_mean.specs.Replay.{Spelt}
+use Rattle.ob_shell.proofs.Words.{Access, All, All-cons, All-nil, ap, arith, asked_of, Bool, Err, false, Flights, gathered_then, if◌then◌else◌, inl, inr, length, List, Machine, most_flown, nat_le, next, None, Ok, Option, place_now, public_of, refl, script, Seat, Seen, skeleton, Some, Spelt, Stmt, subst, suc, sym, take, true, ℕ, [], ◌++◌, ◌+◌, ◌-◌, ◌<◌, ◌∙◌, ◌∷◌, ◌≡◌}
+use Rattle.ob_headline.specs.Flights.{AreEntries, AreGathered, EndedBy, MayFly as FlyMay, seat_alone, seats, served_by, whole_of}
 use Rattle.ob_script.specs.Flights.{Alone, Entry, Together, trace_in}
-use Rattle.ob_script.specs.Script.{script}
-use Rattle.ob_script.specs.Trace.{Served, next}
+use Rattle.ob_script.specs.Trace.{Served}
 use Rattle.ob_shell.proofs.HowLemmas.{StartsApart}
 use Rattle.ob_shell.proofs.SeatLemmas.{seats_alone_then}
-use Rattle.ob_shell.specs.Steps.{Flights, Machine, asked_of}
-use Rattle.ob_sql.specs.Skeleton.{skeleton}
-use Rattle.ob_sql.specs.declared.stmt.Stmt.{Stmt}
-use Rattle.ob_tables.specs.Agreeing.{public_of}
 
 -- ---- from a machine on
 module _ {R : Type 0} where

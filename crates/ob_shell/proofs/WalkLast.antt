@@ -1,20 +1,10 @@
 -- What was done behind the texts that were answered one by one, or several together: the last part of a walk.
-use Rattle.std.proofs.Common.{◌≡◌, ◌⊎◌, ◌++◌, inl, inr, ℕ, Bool, List, [], ◌∷◌, Option, Ok, Err, Result, refl, sym, subst, append-nil}
-use Rattle.ob_base.specs.declared.refusal.Stop.{Stop}
-use Rattle.ob_headline.specs.Words.{Answer, Took, printed}
-use Rattle.ob_headline.specs.declared.ending.Ending.{Ending}
-use Rattle.ob_headline.specs.declared.ending.Ending.TheVariants.{Ran}
-use Rattle.ob_print.specs.Cuts.{Outputs}
+use Rattle.ob_shell.proofs.Words.{Answer, append-nil, Bool, CutTogether, Ending, Err, FinishedTogether, inl, inr, LastPart, List, LosesSome, Machine, Ok, Option, Outputs, PartlyAt, printed, Ran, refl, Result, RevState, RunStop, session_stop, Stop, subst, sym, Took, ℕ, [], ◌++◌, ◌∷◌, ◌≡◌, ◌⊎◌}
 use Rattle.ob_shell.proofs.LeftFlights.{flies_last}
 use Rattle.ob_shell.proofs.FlightLast.{LastWalk}
 use Rattle.ob_shell.proofs.StepLemmas.{by_last}
 use Rattle.ob_shell.proofs.WalkLemmas.{Walked, walked_cut, walked_done_so, walked_idle, walked_none}
-use Rattle.ob_shell.specs.Running.{LastPart}
-use Rattle.ob_shell.specs.Steps.{CutTogether, FinishedTogether, Follow, Machine, PartlyAt}
-use Rattle.ob_shell.specs.Top.{LosesSome}
-use Rattle.ob_tables.specs.Stops.{session_stop}
-use Rattle.ob_tables.specs.declared.stop.RunStop.{RunStop}
-use Rattle.ob_vault.specs.State.{RevState}
+use Rattle.ob_shell.specs.Steps.{Follow}
 
 module _ {R : Type 0} (state : R → RevState) (m1 m2 : Machine R) (more : List (List ℕ)) (part : List ℕ) (w0 w1 : Option (List ℕ)) (Lost : Type 0) (first : List Answer) (cut : Outputs w0 w1 Lost (printed first ++ part)) (whole : Took w0 w1 (printed first)) where
   -- where none of a flight was answered, or there was none

@@ -1,48 +1,27 @@
 -- A walk over the texts that were answered, and the one begun, as far as the first.
-use Rattle.std.specs.Prelude.{◌&&◌, drop, map, max}
-use Rattle.std.proofs.Common.{◌≡◌, ◌⊎◌, inl, inr, ◌+◌, ◌-◌, ◌≤◌, ◌<◌, ℕ, IsTrue, Bool, Ok, Err, Result, List, [], ◌∷◌, ◌++◌, length, take, Option, Some, None, refl, sym, ◌∙◌, ap, subst, append-nil, arith, ◌||◌, true, false}
-use Rattle.std.proofs.lemmas.List.{append_cancel_left}
-use Rattle.ob_base.specs.Events.{Event}
-use Rattle.ob_base.specs.declared.access.Access.{Access}
-use Rattle.ob_base.specs.declared.config.Public.{Public}
+use Rattle.ob_shell.proofs.Words.{Access, after, Answer, ap, append-nil, append_cancel_left, AreDraws, arith, asked_of, Begins, Bool, by_fault, closing_line, cut_off, Does, Draws, drop, Ending, EndsUntampered, engine_start, Err, Event, events_text, false, Gathering, Given, How, indexes_of, inl, inr, is_cut, is_fault, is_full_now, IsBefore, IsSteady, IsTrue, KeySet, length, Lie, List, Machine, map, met_script, None, Ok, opened_from, Option, Outcome, PrintsUntil, Public, public_of, Ran, ReadsTrueUntil, refl, Represents, Result, RevState, RisesBy, RunStop, script, Seat, Seen, seen_of, seen_or_cut, Session, session_of, session_stop, Skeleton, skeleton, Some, SpellFirst, Spelt, statements, statements_of, Stmt, subst, sym, Tables, take, true, whole_script, World, world_of, ℕ, [], ◌&&◌, ◌++◌, ◌+◌, ◌-◌, ◌<◌, ◌||◌, ◌∙◌, ◌∷◌, ◌≡◌, ◌≤◌, ◌⊎◌}
+use Rattle.std.specs.Prelude.{max}
 use Rattle.ob_base.specs.declared.refusal.Stop.TheVariants.{NoMemory, StashFull}
-use Rattle.ob_base.specs.declared.seen.Seen.{Seen}
-use Rattle.ob_base.specs.declared.skeleton.Skeleton.{Skeleton}
 use Rattle.ob_tables.proofs.EmitLemmas.{unfit_none}
-use Rattle.ob_exec.proofs.LeavesRead.{Given}
 use Rattle.ob_exec.specs.Ran.{StopsWhere}
-use Rattle.ob_tables.specs.Agreeing.{AreDraws, engine_start, indexes_of, opened_from, public_of, seen_of, world_of}
 use Rattle.ob_select.specs.Memory.{AtMake, starts_with_make}
-use Rattle.ob_tables.specs.Running.{RunCause, is_fault}
-use Rattle.ob_verdict.specs.Outcomes.{by_fault}
-use Rattle.ob_tables.specs.Stops.{session_stop}
-use Rattle.ob_tables.specs.Telling.{IsNotTampered, Meant, ReadsTrue, ReadsTrueUntil, Represents, is_refused}
-use Rattle.ob_verdict.specs.declared.outcome.Outcome.{Outcome}
-use Rattle.ob_tables.specs.declared.stop.RunStop.{RunStop}
+use Rattle.ob_tables.specs.Running.{RunCause}
+use Rattle.ob_tables.specs.Telling.{IsNotTampered, Meant, ReadsTrue, is_refused}
 use Rattle.ob_tables.specs.declared.stop.RunStop.TheVariants as Runs
-use Rattle.ob_headline.specs.Closing.{closing_line}
-use Rattle.ob_headline.proofs.FullLemmas.{met_script}
-use Rattle.ob_headline.specs.Failures.{FailsBeside, RisesBy, cut_off, failures}
+use Rattle.ob_headline.specs.Failures.{FailsBeside, failures}
 use Rattle.ob_headline.specs.Disturbed.{MeantUntil, meant_entries}
-use Rattle.ob_headline.specs.Flights.{GoesOn, Seat, after_entries, seat_alone, seats, whole_of}
+use Rattle.ob_headline.specs.Flights.{GoesOn, after_entries, seat_alone, seats, whole_of}
 use Rattle.ob_headline.specs.FullStash.{ReadsFullStash}
-use Rattle.ob_headline.specs.Words.{Answer, Begins, refused_at}
-use Rattle.ob_headline.specs.Statements.{SpellFirst, statements}
+use Rattle.ob_headline.specs.Words.{refused_at}
 use Rattle.ob_headline.specs.Accesses.{AreSeen, LeavesAloft, StopsWithin, cut_aloft, WantsMemory, any_cut, ends_within, may_end}
-use Rattle.ob_headline.specs.Meaning.{AnswersFrom, AnswersIn, BeginsAnswer, PrintsUntil, session_after}
-use Rattle.ob_mean.specs.Batches.{Gathering, is_cut}
-use Rattle.ob_headline.specs.declared.ending.Ending.{Ending}
-use Rattle.ob_headline.specs.declared.ending.Ending.TheVariants.{Usage, BadKey, Ran}
+use Rattle.ob_headline.specs.Meaning.{AnswersFrom, AnswersIn, BeginsAnswer, session_after}
 use Rattle.ob_keyed.specs.Serving.{Overfills}
-use Rattle.ob_mean.specs.Replay.{Alone, Broken, CutAfter, How, IsCutOff, Session, Spelt, after, cut_at, draws_taken, is_access, is_full_now, seen_now, seen_or_cut}
-use Rattle.ob_mean.specs.Verdict.{Draws, Tables}
-use Rattle.ob_print.specs.Rows.{events_text}
+use Rattle.ob_mean.specs.Replay.{Alone, Broken, CutAfter, IsCutOff, cut_at, draws_taken, is_access, seen_now}
 use Rattle.ob_script.specs.Saved.{left_by}
-use Rattle.ob_script.specs.Script.{changes_tables, is_saved, save_part, script, whole_script}
+use Rattle.ob_script.specs.Script.{changes_tables, is_saved, save_part}
 use Rattle.ob_script.specs.Flights.{Alone as AloneTurn, Entry as Turn, trace_in}
 use Rattle.ob_script.specs.Trace.{Served as Entry}
 use Rattle.ob_seal.specs.Draws.{draw_of}
-use Rattle.ob_seal.specs.KeySet.{KeySet}
 use Rattle.ob_shell.proofs.DisturbLemmas.{begins_more, crosses, take_begins}
 use Rattle.ob_shell.proofs.EndLemmas.{alone_joins, rose_by, same_by}
 use Rattle.ob_shell.proofs.FailureLemmas.{beside_none, cuts_none, fails_none}
@@ -54,13 +33,7 @@ use Rattle.ob_shell.proofs.ReplayLemmas.{cut_early, cut_within, free_holds, hold
 use Rattle.ob_shell.proofs.StopLemmas.{only_memory, only_sink, only_stash, stop_untampered, tampered_as}
 use Rattle.ob_shell.proofs.WalkEntries.{EntriesSo, most_at, no_entries, none_refused, one_entry, seats_at, trace_at}
 use Rattle.ob_shell.proofs.WithLemmas.{means_with, room_with, script_with, seen_with, uncut_with, with_apart, with_joins, with_lawful}
-use Rattle.ob_shell.specs.Steps.{CutStep, Does, Finished, Follow, Holds, Idle, IsUndone, Machine, Misspelt, Owed, Owes, ServedStatement, ServedWith, StaysAs, asked_of, draws_behind, has_failed, session_of, settled_by, statements_of}
-use Rattle.ob_shell.specs.Top.{EndsUntampered}
-use Rattle.ob_sql.specs.Skeleton.{skeleton}
-use Rattle.ob_sql.specs.declared.stmt.Stmt.{Stmt}
-use Rattle.ob_store.specs.Calls.{IsBefore, IsSteady}
-use Rattle.ob_store.specs.State.{Lie}
-use Rattle.ob_vault.specs.State.{RevState, World}
+use Rattle.ob_shell.specs.Steps.{CutStep, Finished, Follow, Holds, Idle, IsUndone, Misspelt, Owed, Owes, ServedStatement, ServedWith, StaysAs, draws_behind, has_failed, settled_by}
 use Rattle.ob_vault.specs.Tied.{Calm, IsUnfit}
 
 -- ---- a stop that is none by a block

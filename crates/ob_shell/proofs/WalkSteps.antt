@@ -1,30 +1,14 @@
 -- A walk over the texts that were answered, one by one.
-use Rattle.std.specs.Prelude.{drop, if◌then◌else◌, is_some}
-use Rattle.std.specs.Option.{option_map}
-use Rattle.std.proofs.Common.{suc, ◌≡◌, ◌⊎◌, inl, inr, ◌+◌, ◌≤◌, ℕ, IsTrue, Bool, Ok, Err, List, [], ◌∷◌, ◌++◌, length, take, Option, Some, None, refl, sym, ◌∙◌, ap, subst, append_assoc, arith, true, false, length-append}
-use Rattle.std.proofs.lemmas.List.{take-append-le}
-use Rattle.ob_base.specs.Counts.{Rises}
-use Rattle.ob_base.specs.declared.access.Access.{Access}
-use Rattle.ob_base.specs.declared.config.Public.{Public}
-use Rattle.ob_base.specs.declared.seen.End.{End}
-use Rattle.ob_base.specs.declared.seen.Seen.{Seen}
+use Rattle.ob_shell.proofs.Words.{Access, after, Answer, ap, append_assoc, AreDraws, arith, asked_of, Begins, begins_batch, Bool, by_fault, cut_off, Disturbance, Draws, drop, End, end_cut, Ending, engine_start, Err, false, Flights, Gathered, Gathering, How, if◌then◌else◌, indexes_of, inl, inr, inserts_into, is_cut, is_fault, is_some, IsBefore, IsSteady, IsTrue, KeySet, length, length-append, Lie, List, Machine, may_fly, met_script, most_flown, next, None, Ok, Option, option_map, Public, public_of, refl, refusal_now, Represents, RevState, Rises, RisesBy, script, Seat, Seen, seen_of, seen_or_cut, Session, session_of, skeleton, Some, SpellFirst, Spelt, standing, Start, statements, Stmt, subst, suc, sym, Tables, take, take-append-le, true, ℕ, [], ◌++◌, ◌+◌, ◌∙◌, ◌∷◌, ◌≡◌, ◌≤◌, ◌⊎◌}
 use Rattle.ob_exec.proofs.LeavesRead.{behind}
-use Rattle.ob_headline.proofs.FullLemmas.{met_script}
 use Rattle.ob_headline.specs.Accesses.{AreSeen, LeavesAloft, StopsWithin, any_cut, cut_aloft}
 use Rattle.ob_headline.specs.Disturbed.{MeantUntil}
-use Rattle.ob_headline.specs.Failures.{RisesBy, cut_off}
-use Rattle.ob_headline.specs.Flights.{GoesOn, Seat, after_entries, may_fly, most_flown, seat_alone, whole_of}
+use Rattle.ob_headline.specs.Flights.{GoesOn, after_entries, seat_alone, whole_of}
 use Rattle.ob_headline.specs.Meaning.{AnswersFrom, AnswersIn, AnswersMeant, session_after}
-use Rattle.ob_headline.specs.Statements.{SpellFirst, statements}
-use Rattle.ob_headline.specs.Words.{Answer, Begins}
-use Rattle.ob_headline.specs.declared.ending.Ending.{Ending}
-use Rattle.ob_mean.specs.Batches.{Gathering, and_one, begins_batch, begun_by, gathering_after, goes_into, inserts_into, is_cut}
-use Rattle.ob_mean.specs.Replay.{Alone, Broken, How, Session, Spelt, after, draws_taken, how_now, seen_now, seen_or_cut}
-use Rattle.ob_mean.specs.Verdict.{Draws, Tables}
-use Rattle.ob_script.specs.Script.{script}
+use Rattle.ob_mean.specs.Batches.{and_one, begun_by, gathering_after, goes_into}
+use Rattle.ob_mean.specs.Replay.{Alone, Broken, draws_taken, how_now, seen_now}
 use Rattle.ob_script.specs.Flights.{Alone as AloneTurn, Entry as Turn, trace_in}
-use Rattle.ob_script.specs.Trace.{Served as Entry, next}
-use Rattle.ob_seal.specs.KeySet.{KeySet}
+use Rattle.ob_script.specs.Trace.{Served as Entry}
 use Rattle.ob_shell.proofs.DisturbLemmas.{before_less, begins_more, crosses, few_or_more}
 use Rattle.ob_shell.proofs.FailureLemmas.{answered, beside_more, cut_rises, cuts_more, fails_more, own_rises, uncut_rises}
 use Rattle.ob_shell.proofs.EndLemmas.{alone_joins, failed_by, same_by, says}
@@ -37,18 +21,8 @@ use Rattle.ob_shell.proofs.SeatLemmas.{after_alone_then, trace_alone_then}
 use Rattle.ob_shell.proofs.WalkEntries.{alone_entries, most_at, refused_entries, seats_at, seats_more, trace_at, whole_alone}
 use Rattle.ob_shell.proofs.WalkLemmas.{Behind, EarlyFrom, Full, Walked, answered_by, early_answered, none_saved, or_first, or_rest, reads_true, refused_is, world}
 use Rattle.ob_shell.proofs.WithLemmas.{batched, failed_with, means_with, meant_with, next_with, room_with, script_with, seen_with, uncut_with, with_apart, with_failed, with_grounded, with_joins, with_lawful, with_plan, with_says}
-use Rattle.ob_shell.specs.Steps.{Flights, Gathered, Holds, Machine, Misspelt, ServedStatement, ServedWith, StaysAs, asked_of, has_failed, session_of, standing}
-use Rattle.ob_sql.specs.Skeleton.{skeleton}
-use Rattle.ob_sql.specs.declared.stmt.Stmt.{Stmt}
-use Rattle.ob_store.specs.Calls.{IsBefore, IsSteady}
-use Rattle.ob_store.specs.State.{Disturbance, Lie}
-use Rattle.ob_tables.specs.Agreeing.{AreDraws, engine_start, indexes_of, public_of, seen_of}
-use Rattle.ob_tables.specs.Running.{is_fault}
-use Rattle.ob_tables.specs.Telling.{Represents}
-use Rattle.ob_vault.specs.State.{RevState, Start}
+use Rattle.ob_shell.specs.Steps.{Holds, Misspelt, ServedStatement, ServedWith, StaysAs, has_failed}
 use Rattle.ob_vault.specs.Tied.{IsUnfit, TagFits}
-use Rattle.ob_verdict.specs.Outcomes.{by_fault, refusal_now}
-use Rattle.ob_tables.proofs.CutLemmas.{end_cut}
 
 -- ---- the walk
 module _ {R : Type 0} (state : R → RevState) where

@@ -1,12 +1,8 @@
 -- A walk over all texts that were answered, one by one, or several together, and the last part behind them.
-use Rattle.std.proofs.Common.{◌++◌, inl, inr, ℕ, List, ◌∷◌, sym, subst, append_assoc}
-use Rattle.ob_headline.specs.Words.{Answer}
-use Rattle.ob_headline.specs.declared.ending.Ending.{Ending}
+use Rattle.ob_shell.proofs.Words.{Answer, append_assoc, at_rest, Ending, inl, inr, List, Machine, more_together, one_more, RevState, Step, Steps, StepTogether, subst, sym, ℕ, ◌++◌, ◌∷◌}
 use Rattle.ob_shell.proofs.FlightMore.{at_turn, more_flown, spelt_up, up}
 use Rattle.ob_shell.proofs.WalkLemmas.{EarlyAt, Walked}
 use Rattle.ob_shell.proofs.WalkSteps.{more_refused, more_served, more_with}
-use Rattle.ob_shell.specs.Steps.{Machine, Step, StepTogether, Steps, at_rest, more_together, one_more}
-use Rattle.ob_vault.specs.State.{RevState}
 
 module _ {R : Type 0} (state : R → RevState) where
   -- what holds of a flight before the first disturbance

@@ -1,55 +1,33 @@
 -- One statement that was carried out with the INSERT before it, by its meaning.
-use Rattle.std.specs.Prelude.{◌↔◌, ◌&&◌, IsSome, if◌then◌else◌, is_some}
-use Rattle.std.specs.Option.{is_none, option_map, option_map_or}
-use Rattle.std.proofs.Common.{◌≡◌, ℕ, IsTrue, Bool, true, false, List, [], ◌++◌, Option, Some, None, refl, sym, ◌∙◌, ap, subst}
-use Rattle.ob_base.specs.Stored.{headings, headings_of}
-use Rattle.ob_base.specs.declared.config.Public.{Public}
-use Rattle.ob_base.specs.declared.refusal.Refusal.{Refusal}
+use Rattle.ob_shell.proofs.Words.{access_public, after, Answer, ap, asked_of, begins_batch, Bool, closing_line, Draws, early_refusal, events_text, false, Gathered, Gathering, Heading, headings, headings_of, How, if◌then◌else◌, inserts_into, is_cut, is_fault, is_full_now, is_joined, is_late, is_some, IsTrue, Joined, limits_of, List, Machine, may_fly, next, None, Option, option_map, option_map_or, Outcome, outcome_of, place_now, Public, public_of, refl, Refusal, refusal_now, Refused, Represents, RevState, script, Seen, seen_or_cut, Session, session_of, settle_all, skeleton, Some, statements_of, Stmt, subst, sym, Tables, true, ℕ, [], ◌&&◌, ◌++◌, ◌∙◌, ◌≡◌}
+use Rattle.std.specs.Prelude.{◌↔◌, IsSome}
+use Rattle.std.specs.Option.{is_none}
 use Rattle.ob_base.specs.declared.refusal.Refusal.TheVariants.{StoreFault}
-use Rattle.ob_base.specs.declared.schema.Heading.{Heading}
-use Rattle.ob_base.specs.declared.seen.End.TheVariants.{Joined}
-use Rattle.ob_base.specs.declared.seen.Seen.{Seen}
 use Rattle.ob_headline.specs.Accesses.{Says}
 use Rattle.ob_headline.specs.Batches.{Joins, is_failed}
-use Rattle.ob_headline.specs.Closing.{closing_line}
-use Rattle.ob_headline.specs.Flights.{may_fly, place_now}
 use Rattle.ob_headline.specs.Meaning.{AnswersIn, AnswersMeant}
-use Rattle.ob_headline.specs.Words.{Answer}
 use Rattle.ob_mean.proofs.BatchLemmas.{GoesIn, after_cut_with, after_refused, after_with, goes_in, settle_refused}
 use Rattle.ob_mean.proofs.VerdictLemmas.{refused_early, seen_early}
-use Rattle.ob_mean.specs.Batches.{Gathering, and_one, begins_batch, begun_by, goes_into, inserts_into, is_cut, is_joined, is_unrefused, settle_all}
+use Rattle.ob_mean.specs.Batches.{and_one, begun_by, goes_into, is_unrefused}
 use Rattle.ob_mean.specs.Lawful.{Lawful}
 use Rattle.ob_mean.specs.Prints.{Prints, Unfinished}
-use Rattle.ob_mean.specs.Refusals.{early_refusal, limits_of}
-use Rattle.ob_mean.specs.Replay.{Alone, CutWith, How, IsCutOff, IsMember, Session, With, after, how_now, is_full_now, seen_or_cut}
+use Rattle.ob_mean.specs.Replay.{Alone, CutWith, IsCutOff, IsMember, With, how_now}
 use Rattle.ob_mean.specs.Settle.{settle, settle_served, settled}
 use Rattle.ob_mean.specs.Step.{accepted_answer, answered, followed}
-use Rattle.ob_mean.specs.Verdict.{Accessed, Draws, Tables, accessed, database, ended as seen_to, gone, is_late, refusal, verdict}
+use Rattle.ob_mean.specs.Verdict.{Accessed, accessed, database, ended as seen_to, gone, refusal, verdict}
 use Rattle.ob_mean.specs.declared.answer.Answer.TheVariants as A
-use Rattle.ob_print.specs.Rows.{events_text}
 use Rattle.ob_script.proofs.Unasked.{static_stays, stays_public}
-use Rattle.ob_script.specs.Script.{script}
-use Rattle.ob_script.specs.Trace.{next}
-use Rattle.ob_shell.specs.Steps.{Gathered, AreOwed, Holds, Machine, Owed, ServedWith, StaysAs, TakesOwed, asked_of, end_with, has_failed, session_of, statements_of, tables_behind}
-use Rattle.ob_sql.specs.Skeleton.{skeleton}
+use Rattle.ob_shell.specs.Steps.{AreOwed, Holds, Owed, ServedWith, StaysAs, TakesOwed, end_with, has_failed, tables_behind}
 use Rattle.ob_sql.specs.declared.stmt.Literal.{Literal}
-use Rattle.ob_sql.specs.declared.stmt.Stmt.{Stmt}
-use Rattle.ob_sql.specs.declared.stmt.Stmt.TheVariants.{Create, Insert, Update, Delete, Drop as DropTable, SelectRows as RowsStmt, SelectTotals as TotalsStmt}
+use Rattle.ob_sql.specs.declared.stmt.Stmt.TheVariants.{Insert}
 use Rattle.ob_tables.proofs.LawfulLemmas.{lawful_refused}
 use Rattle.ob_tables.proofs.ServeLemmas.{silent_emits}
 use Rattle.ob_tables.proofs.ToldLemmas.{early_is}
-use Rattle.ob_tables.specs.Agreeing.{public_of}
 use Rattle.ob_tables.specs.Batch.{AnswersRow, IsServedWith}
-use Rattle.ob_tables.specs.Running.{HasNoRows, inserted_as, is_fault}
-use Rattle.ob_tables.specs.Telling.{Represents}
+use Rattle.ob_tables.specs.Running.{HasNoRows, inserted_as}
 use Rattle.ob_mutate.specs.declared.inserting.Inserted.{Inserted as InsertedAs}
 use Rattle.ob_mutate.specs.declared.inserting.Inserted.TheVariants.{Done, Duplicate, Full}
-use Rattle.ob_vault.specs.State.{RevState}
-use Rattle.ob_verdict.proofs.AccessedProof.{access_public}
 use Rattle.ob_verdict.proofs.AlikeTables.{headings_changed}
-use Rattle.ob_verdict.specs.Outcomes.{outcome_of, refusal_now}
-use Rattle.ob_verdict.specs.declared.outcome.Outcome.{Outcome}
-use Rattle.ob_verdict.specs.declared.outcome.Outcome.TheVariants.{Refused}
 
 -- ---- an INSERT
 pub record IsInsert (stmt : Stmt) : Type 0 where

@@ -1,12 +1,5 @@
-use Rattle.std.proofs.Common.{◌≡◌, List, ◌∷◌, length, drop, true, ◌∙◌, refl, inl, inr, arith, subst, sym}
+use Rattle.ob_shell.proofs.Words.{Access, Appends, arith, drop, inl, inr, length, List, machine_of, Outcome, Outputs, Outputs-by, printed, refl, subst, sym, Tally, traced, true, ◌∙◌, ◌∷◌, ◌≡◌}
 use Rattle.std.proofs.lemmas.List.{take_at}
-use Rattle.std.specs.Io.KnownBytes.{Appends}
-use Rattle.ob_base.specs.declared.access.Access.{Access}
-use Rattle.ob_gen.specs.declared.tally.Tally.{Tally}
-use Rattle.ob_headline.specs.Tracing.{traced}
-use Rattle.ob_headline.specs.Words.{printed}
-use Rattle.ob_print.proofs.CutLemmas.{Outputs-by}
-use Rattle.ob_print.specs.Cuts.{Outputs}
 use Rattle.ob_shell.proofs.FlushLemmas.{batch_unsunk, idle_batch, lost_batch, lost_quiet, lost_with, served_batch, stopped_batch, traced_only, traced_quiet}
 use Rattle.ob_shell.proofs.LetGoLemmas.{asked_from, batch_from}
 use Rattle.ob_shell.proofs.LineLemmas.{counted_all}
@@ -14,8 +7,6 @@ use Rattle.ob_shell.proofs.TookLemmas.{traced_to}
 use Rattle.ob_shell.proofs.TraceLemmas.{since, traced_none, traced_whole, until}
 use Rattle.ob_shell.proofs.batching.serve_batch.Goals as goal
 use Rattle.ob_shell.specs.Lines.{BatchCut, line_answers}
-use Rattle.ob_shell.specs.Steps.{machine_of}
-use Rattle.ob_verdict.specs.declared.outcome.Outcome.{Outcome}
 
 pub returns-in_default-clause-serves : goal.returns-in_default-clause-serves
 returns-in_default-clause-serves g c = λ flights.

@@ -1,12 +1,7 @@
-use Rattle.std.proofs.Common.{◌≡◌, List, [], ◌∷◌, ◌∙◌, arith, length, refl, subst, sym}
+use Rattle.ob_shell.proofs.Words.{arith, count_of, flights_of, length, machine_of, public_of}
 use Rattle.ob_shell.proofs.FlightTakes.{are_flight, first_at, first_may, flight_served, flown_few, only_one, single_begins}
 use Rattle.ob_shell.proofs.TakesLemmas.{single_served}
 use Rattle.ob_shell.proofs.batching.serve_selects.Goals as goal
-use Rattle.ob_shell.specs.Flying.{flights_of}
-use Rattle.ob_shell.specs.Serving.{ServesBatch}
-use Rattle.ob_shell.specs.Steps.{machine_of}
-use Rattle.ob_sql.specs.declared.stmt.Stmt.{Stmt}
-use Rattle.ob_tables.specs.Agreeing.{count_of, public_of}
 
 pub serve_flight-requires : goal.serve_flight-requires
 serve_flight-requires g c =

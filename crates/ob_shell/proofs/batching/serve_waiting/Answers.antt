@@ -1,12 +1,8 @@
-use Rattle.std.proofs.Common.{◌≡◌, ◌∙◌, List, [], ◌∷◌, Ok, length, refl, subst, sym, arith}
+use Rattle.ob_shell.proofs.Words.{arith, count_of, flights_of, length, List, machine_of, public_of, refl, Stmt, subst, sym, [], ◌∙◌, ◌∷◌, ◌≡◌}
 use Rattle.ob_shell.proofs.FlightTakes.{batch_of, flown_of}
 use Rattle.ob_shell.proofs.TakesLemmas.{ready_with, takes_idle}
 use Rattle.ob_shell.proofs.batching.serve_waiting.Goals as goal
-use Rattle.ob_shell.specs.Flying.{flights_of}
-use Rattle.ob_shell.specs.Steps.{machine_of}
 use Rattle.ob_shell.specs.Waiting.{AreBatched, AreFlown}
-use Rattle.ob_sql.specs.declared.stmt.Stmt.{Stmt}
-use Rattle.ob_tables.specs.Agreeing.{count_of, public_of}
 
 none : (batch : List Stmt) → length batch ≡ 0 → batch ≡ []
 none [] is = refl

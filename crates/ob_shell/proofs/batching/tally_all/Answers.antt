@@ -1,4 +1,4 @@
-use Rattle.std.proofs.Common.{◌≤◌, ◌∙◌, length, refl, sym, arith}
+use Rattle.ob_shell.proofs.Words.{arith, length, refl, sym, ◌∙◌, ◌≤◌}
 use Rattle.ob_shell.proofs.LineLemmas.{tally_at, tally_done}
 use Rattle.ob_shell.proofs.batching.tally_all.Goals as goal
 

@@ -1,4 +1,4 @@
-use Rattle.std.proofs.Common.{◌≡◌, drop}
+use Rattle.ob_shell.proofs.Words.{drop, ◌≡◌}
 use Rattle.ob_shell.proofs.batching.tally_all.Given as goal
 use Rattle.ob_shell.specs.Lines.{line_answers}
 use Rattle.ob_shell.specs.Tallies.{tally_after}

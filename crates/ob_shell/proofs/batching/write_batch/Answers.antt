@@ -1,7 +1,5 @@
-use Rattle.std.proofs.Common.{[], ◌∙◌, refl, inr}
-use Rattle.std.proofs.KnownBytes.{Appends-nil}
+use Rattle.ob_shell.proofs.Words.{Appends-nil, inr, Outputs-by, Outputs-fault, Outputs-whole, refl, [], ◌∙◌}
 use Rattle.std.proofs.lemmas.Result.{on_ok_weaker}
-use Rattle.ob_print.proofs.CutLemmas.{Outputs-by, Outputs-fault, Outputs-whole}
 use Rattle.ob_shell.proofs.LineLemmas.{all_lines, batch_cut, first_lost}
 use Rattle.ob_shell.proofs.batching.write_batch.Goals as goal
 

@@ -1,6 +1,5 @@
-use Rattle.std.proofs.Common.{◌≡◌, [], ◌++◌, ◌≤◌, false, true, length, refl, ◌∙◌, arith}
+use Rattle.ob_shell.proofs.Words.{arith, false, length, Outputs-by, refl, true, [], ◌++◌, ◌∙◌, ◌≡◌, ◌≤◌}
 use Rattle.ob_print.specs.Sent.{sends_none}
-use Rattle.ob_print.proofs.CutLemmas.{Outputs-by}
 use Rattle.ob_print.proofs.SentLemmas.{Sends-by, Sends-cut, Sends-lose, Sends-then, flushed, flushed_ok}
 use Rattle.ob_shell.proofs.LineLemmas.{lines, lines_done, lines_more}
 use Rattle.ob_shell.proofs.batching.write_pieces.Goals as goal

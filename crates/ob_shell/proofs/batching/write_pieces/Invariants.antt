@@ -1,5 +1,4 @@
-use Rattle.std.proofs.Common.{◌≡◌, ◌++◌, ℕ, List, drop}
-use Rattle.ob_print.specs.Sent.{Sends}
+use Rattle.ob_shell.proofs.Words.{drop, List, Sends, ℕ, ◌++◌, ◌≡◌}
 use Rattle.ob_shell.proofs.LineLemmas.{lines}
 use Rattle.ob_shell.proofs.batching.write_pieces.Given as goal
 

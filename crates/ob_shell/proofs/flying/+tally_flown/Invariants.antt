@@ -1,4 +1,4 @@
-use Rattle.std.proofs.Common.{length}
+use Rattle.ob_shell.proofs.Words.{length}
 use Rattle.ob_shell.proofs.flying.+tally_flown.Given as goal
 
 abbrev pub decreases-tally_flown : goal.decreases-tally_flown

@@ -1,4 +1,4 @@
-use Rattle.std.proofs.Common.{rules}
+use Rattle.ob_shell.proofs.Words.{rules}
 use Rattle.ob_shell.proofs.flying.answer_flight.Goals as goal
 
 pub returns-clause-runs : goal.returns-clause-runs

@@ -1,5 +1,4 @@
-use Rattle.std.proofs.Common.{◌≡◌, ◌∙◌, inr, false, true, arith, refl, rules}
-use Rattle.ob_gen.specs.declared.tally.Tally.{Tally}
+use Rattle.ob_shell.proofs.Words.{arith, false, inr, refl, rules, Tally, true, ◌∙◌, ◌≡◌}
 use Rattle.ob_shell.proofs.AloftLemmas.{named_until, named_whole}
 use Rattle.ob_shell.proofs.CountLemmas.{rises_earlier}
 use Rattle.ob_shell.proofs.FlightPrints.{counts_whole, prints_behind, prints_lost, prints_until, prints_whole}

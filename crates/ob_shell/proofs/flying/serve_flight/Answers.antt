@@ -1,7 +1,4 @@
-use Rattle.std.proofs.Common.{List, ◌≡◌, ◌∙◌, arith, refl, true, rules, subst, sym, inl, inr}
-use Rattle.std.specs.Io.KnownBytes.{Appends}
-use Rattle.ob_base.specs.declared.access.Access.{Access}
-use Rattle.ob_headline.specs.Tracing.{traced}
+use Rattle.ob_shell.proofs.Words.{Access, Appends, arith, inr, List, refl, rules, subst, sym, traced, true, ◌∙◌, ◌≡◌}
 use Rattle.ob_shell.proofs.CountLemmas.{traced_cause}
 use Rattle.ob_shell.proofs.FlightPrints.{cuts_behind, cuts_unlost}
 use Rattle.ob_shell.proofs.LetGoFlights.{counts_from}

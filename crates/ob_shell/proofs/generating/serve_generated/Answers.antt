@@ -1,5 +1,4 @@
-use Rattle.std.proofs.Common.{ap}
-use Rattle.ob_gen.specs.Generated.{GeneratedState}
+use Rattle.ob_shell.proofs.Words.{ap, GeneratedState}
 use Rattle.ob_shell.proofs.CountLemmas.{silenced_kept, silenced_rose}
 use Rattle.ob_shell.proofs.GeneratingLemmas.{ran_generated, concludes_at, concludes_by, trace_rose, traced_by_fault}
 use Rattle.ob_shell.proofs.TopLemmas.{takes_of}

@@ -1,5 +1,4 @@
-use Rattle.std.proofs.Common.{Err, List, Ok, inl, inr, refl, ◌∙◌, arith, subst, sym}
-use Rattle.ob_base.specs.declared.access.Access.{Access}
+use Rattle.ob_shell.proofs.Words.{Access, arith, Err, inl, inr, List, Ok, refl, subst, sym, ◌∙◌}
 use Rattle.ob_base.specs.declared.refusal.Stop.TheVariants.{SinkFault}
 use Rattle.ob_headline.proofs.StopLemmas.{closing_stops}
 use Rattle.ob_shell.proofs.EngageLemmas.{closes_run, closing_after, closing_until, not_plain}

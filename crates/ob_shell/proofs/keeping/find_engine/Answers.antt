@@ -1,14 +1,8 @@
-use Rattle.std.proofs.Common.{◌≡◌, ◌∙◌, Ok, refl, sym, ap, subst, arith}
-use Rattle.std.proofs.lemmas.Bool.Decides.{nat_tests}
-use Rattle.ob_reopen.specs.declared.mark.Mark.{Mark}
+use Rattle.ob_shell.proofs.Words.{ap, AreDraws, arith, Closing, first_draws, keys_of, KeySet, Mark, nat_tests, Ok, refl, subst, sym, ◌∙◌, ◌≡◌}
 use Rattle.ob_reopen.specs.declared.mark.Mark.TheVariants.{Fresh, Closed}
-use Rattle.ob_tables.specs.Agreeing.{AreDraws, first_draws}
 use Rattle.ob_headline.specs.Keeping.{EndsFrom, closing_named}
 use Rattle.ob_reopen.specs.Keepers.{IsMark}
 use Rattle.ob_reopen.specs.Limits.{IsMarked}
-use Rattle.ob_reopen.specs.declared.closing.Closing.{Closing}
-use Rattle.ob_seal.specs.KeySet.{KeySet}
-use Rattle.ob_seal.specs.Sealed.{keys_of}
 use Rattle.ob_shell.proofs.EngageLemmas.{engages_first, engages_opened, not_reopened, opens_closing, packs}
 use Rattle.ob_shell.proofs.keeping.find_engine.Goals as goal
 

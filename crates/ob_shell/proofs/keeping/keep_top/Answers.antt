@@ -1,5 +1,4 @@
-use Rattle.std.specs.Prelude.{string_bytes}
-use Rattle.std.proofs.Common.{Some, None, Err, map, refl, sym, ◌∙◌, ap}
+use Rattle.ob_shell.proofs.Words.{ap, Err, map, None, refl, Some, string_bytes, sym, ◌∙◌}
 use Rattle.ob_headline.specs.Usage.{kept_usage}
 use Rattle.ob_shell.proofs.CloseLemmas.{reported_taken}
 use Rattle.ob_shell.proofs.GeneratingLemmas.{asked_is, summarized}

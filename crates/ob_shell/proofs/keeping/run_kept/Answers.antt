@@ -1,7 +1,4 @@
-use Rattle.std.proofs.Common.{inl, inr, sym, ◌∙◌, ap, subst}
-use Rattle.ob_base.specs.Stored.{headings_of}
-use Rattle.ob_base.specs.declared.config.Public.{Public}
-use Rattle.ob_mean.specs.Flats.{AreFlat}
+use Rattle.ob_shell.proofs.Words.{ap, AreFlat, headings_of, inl, inr, Public, subst, sym, ◌∙◌}
 use Rattle.ob_shell.proofs.KeepLemmas.{unbegun, unkeyed_fault, unkeyed_line}
 use Rattle.ob_shell.proofs.KeepRunLemmas.{last_ran, secret_ran}
 use Rattle.ob_shell.proofs.keeping.run_kept.Goals as goal

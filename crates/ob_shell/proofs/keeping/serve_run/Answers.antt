@@ -1,10 +1,8 @@
-use Rattle.std.proofs.Common.{Err, ap, inl, inr, refl}
+use Rattle.ob_shell.proofs.Words.{ap, Err, inl, inr, KeptEnded, refl, told_nothing}
 use Rattle.ob_shell.proofs.FewLemmas.{session_few}
 use Rattle.ob_shell.proofs.GeneratingLemmas.{traced_by_fault}
 use Rattle.ob_shell.proofs.KeepLemmas.{serves_all, serves_stop}
 use Rattle.ob_shell.proofs.TallyLemmas.{plain_whole}
-use Rattle.ob_shell.specs.Steps.{told_nothing}
-use Rattle.ob_shell.specs.declared.keeping.KeptEnded.{KeptEnded}
 use Rattle.ob_shell.proofs.keeping.serve_run.Goals as goal
 
 pub close_run-requires-clause-few : goal.close_run-requires-clause-few

@@ -1,5 +1,4 @@
-use Rattle.std.proofs.Common.{List, ap, arith, length, subst}
-use Rattle.ob_base.specs.declared.access.Access.{Access}
+use Rattle.ob_shell.proofs.Words.{Access, ap, arith, length, List, subst}
 use Rattle.ob_shell.proofs.keeping.start_run.Goals as goal
 
 pub trace_from-requires-clause-listed : goal.trace_from-requires-clause-listed

@@ -1,4 +1,5 @@
-use Rattle.std.proofs.Common.{refl, ◌∙◌, arith, length-take, length-set}
+use Rattle.ob_shell.proofs.Words.{arith, refl, ◌∙◌}
+use Rattle.std.proofs.Common.{length-take, length-set}
 use Rattle.ob_shell.proofs.FeedLemmas.{Fed-none, Fed-then}
 use Rattle.ob_shell.proofs.KeyLemmas.{key_halted, key_at_end, key_at_lf, key_too_long, line_grows, has_lf-nil, has_lf-push, none_unread}
 use Rattle.ob_shell.proofs.key.read_key.Goals as goal

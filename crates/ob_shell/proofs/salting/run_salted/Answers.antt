@@ -1,10 +1,8 @@
-use Rattle.std.proofs.Common.{ap, inl, refl}
+use Rattle.ob_shell.proofs.Words.{ap, inl, KeptEnded, refl, stop_of}
 use Rattle.ob_shell.proofs.KeepLemmas.{unkeyed_fault, unkeyed_line}
 use Rattle.ob_shell.proofs.SaltedRunLemmas.{last_salted, secret_salted, undrawn}
 use Rattle.ob_shell.proofs.TallyLemmas.{plain_whole}
 use Rattle.ob_shell.proofs.salting.run_salted.Goals as goal
-use Rattle.ob_shell.specs.Running.{stop_of}
-use Rattle.ob_shell.specs.declared.keeping.KeptEnded.{KeptEnded}
 
 pub returns-in-Err-SourceFault-clause-ran : goal.returns-in-Err-SourceFault-clause-ran
 returns-in-Err-SourceFault-clause-ran g c =

@@ -1,4 +1,4 @@
-use Rattle.std.proofs.Common.{refl}
+use Rattle.ob_shell.proofs.Words.{refl}
 use Rattle.ob_shell.proofs.TopLemmas.{ran_nothing}
 use Rattle.ob_shell.proofs.TraceLemmas.{traced_none, traced_whole}
 use Rattle.ob_shell.proofs.salting.serve_salted.Goals as goal

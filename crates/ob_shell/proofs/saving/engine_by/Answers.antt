@@ -1,5 +1,4 @@
-use Rattle.std.proofs.Common.{◌≡◌, ◌∙◌, arith, sym}
-use Rattle.std.proofs.lemmas.Bool.Decides.{nat_tests}
+use Rattle.ob_shell.proofs.Words.{arith, nat_tests, sym, ◌∙◌, ◌≡◌}
 use Rattle.ob_shell.proofs.SavedBegin.{engine_opened, named_by, shut_opened}
 use Rattle.ob_shell.proofs.saving.engine_by.Goals as goal
 

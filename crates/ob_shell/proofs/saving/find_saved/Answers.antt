@@ -1,4 +1,4 @@
-use Rattle.std.proofs.Common.{Ok, inl, inr, refl, ◌∙◌}
+use Rattle.ob_shell.proofs.Words.{inl, inr, Ok, refl, ◌∙◌}
 use Rattle.ob_shell.proofs.SavedBegin.{engaged, held_then, looks_still}
 use Rattle.ob_shell.proofs.saving.find_saved.Goals as goal
 

@@ -1,5 +1,4 @@
-use Rattle.std.proofs.Common.{sym, ◌∙◌, subst}
-use Rattle.std.proofs.lemmas.Slice.Eq.{bytes_eq-Decides}
+use Rattle.ob_shell.proofs.Words.{bytes_eq-Decides, subst, sym, ◌∙◌}
 use Rattle.ob_shell.specs.EngagingSaved.{FitsSecret}
 use Rattle.ob_shell.proofs.saving.fits_secret.Goals as goal
 

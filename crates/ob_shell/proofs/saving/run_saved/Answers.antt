@@ -1,4 +1,4 @@
-use Rattle.std.proofs.Common.{inl, inr, refl, ◌∙◌}
+use Rattle.ob_shell.proofs.Words.{inl, inr, refl, ◌∙◌}
 use Rattle.ob_shell.proofs.KeepLemmas.{unkeyed_fault, unkeyed_line}
 use Rattle.ob_shell.proofs.SavedRunLemmas.{last_saved, secret_saved, unsaved}
 use Rattle.ob_shell.proofs.saving.run_saved.Goals as goal

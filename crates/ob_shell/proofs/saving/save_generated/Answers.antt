@@ -1,6 +1,4 @@
-use Rattle.std.proofs.Common.{Some, None, subst}
-use Rattle.ob_gen.specs.Generated.{GeneratedState}
-use Rattle.ob_headline.specs.Words.{faults_of, outside_of}
+use Rattle.ob_shell.proofs.Words.{faults_of, GeneratedState, None, outside_of, Some, subst}
 use Rattle.ob_shell.proofs.saving.save_generated.Goals as goal
 use Rattle.ob_shell.specs.EngagingSaved.{RanSaved}
 

@@ -1,14 +1,8 @@
-use Rattle.std.proofs.Common.{ap, refl, rules, subst}
-use Rattle.ob_headline.specs.Bases.{flying}
-use Rattle.ob_headline.specs.Words.{faults_of}
+use Rattle.ob_shell.proofs.Words.{ap, BeginsToSave, faults_of, flying, KeptEnded, machine_of, no_flights, refl, rules, stop_of, subst}
 use Rattle.ob_shell.proofs.SavedRunLemmas.{serves_saved}
 use Rattle.ob_shell.proofs.TallyLemmas.{plain_whole}
 use Rattle.ob_shell.proofs.saving.serve_saving.Goals as goal
 use Rattle.ob_shell.specs.EngagingSaved.{ServesSaved}
-use Rattle.ob_shell.specs.Leaving.{BeginsToSave}
-use Rattle.ob_shell.specs.Running.{stop_of}
-use Rattle.ob_shell.specs.Steps.{machine_of, no_flights}
-use Rattle.ob_shell.specs.declared.keeping.KeptEnded.{KeptEnded}
 
 pub returns-clause-served : goal.returns-clause-served
 returns-clause-served g c base config keys secret salt engages =

@@ -1,5 +1,4 @@
-use Rattle.std.proofs.Common.{List, Ok, Err, inr, refl, ap, arith, length, subst}
-use Rattle.ob_base.specs.declared.access.Access.{Access}
+use Rattle.ob_shell.proofs.Words.{Access, ap, arith, Err, inr, length, List, Ok, refl, subst}
 use Rattle.ob_shell.proofs.EngageLemmas.{cut_caused}
 use Rattle.ob_shell.proofs.saving.start_saving.Goals as goal
 

@@ -1,12 +1,7 @@
-use Rattle.std.proofs.Common.{refl, inl, inr, ◌∙◌, ◌++◌, arith, rules}
-use Rattle.std.proofs.KnownBytes.{Appends-trans}
-use Rattle.ob_headline.specs.Closing.{closing_line}
-use Rattle.ob_print.proofs.CutLemmas.{Outputs-after, Outputs-fault}
-use Rattle.ob_gen.specs.declared.tally.Tally.{Tally}
+use Rattle.ob_shell.proofs.Words.{Appends-trans, arith, closing_line, inl, inr, Outputs-after, Outputs-fault, refl, rules, session_stop, Tally, ◌++◌, ◌∙◌}
 use Rattle.ob_shell.proofs.CountLemmas.{rises_earlier, same_cause}
 use Rattle.ob_shell.proofs.session.answer.Goals as goal
 use Rattle.ob_shell.specs.declared.session.Answered.{Answered}
-use Rattle.ob_tables.specs.Stops.{session_stop}
 
 pub returns-in-Ok-write_all-clause-serves : goal.returns-in-Ok-write_all-clause-serves
 returns-in-Ok-write_all-clause-serves g c = λ flights.

@@ -1,14 +1,7 @@
-use Rattle.std.proofs.Common.{◌≡◌, false, true, ap, arith, refl, rules}
-use Rattle.ob_base.specs.declared.seen.Seen.{Seen}
-use Rattle.ob_print.proofs.CutLemmas.{Outputs-by}
+use Rattle.ob_shell.proofs.Words.{ap, arith, events_text, false, machine_of, most_flown, Outputs-by, public_of, refl, rules, Seen, seen_of, skeleton, true, ◌≡◌}
 use Rattle.ob_print.proofs.SentLemmas.{Sends-cut, flushed, flushed_cut, flushed_whole}
 use Rattle.ob_shell.proofs.CountLemmas.{rises_earlier}
 use Rattle.ob_shell.proofs.ServeLemmas.{answered_by, failed_by, finished_by, flush_loses, flush_silences, select_tables, stop_cause, stopped_by}
-use Rattle.ob_print.specs.Rows.{events_text}
-use Rattle.ob_headline.specs.Flights.{most_flown}
-use Rattle.ob_shell.specs.Steps.{machine_of}
-use Rattle.ob_sql.specs.Skeleton.{skeleton}
-use Rattle.ob_tables.specs.Agreeing.{public_of, seen_of}
 use Rattle.ob_shell.specs.declared.session.Answered.{Answered}
 use Rattle.ob_shell.proofs.session.run_stmt.Goals as goal
 

@@ -1,4 +1,4 @@
-use Rattle.std.proofs.Common.{rules}
+use Rattle.ob_shell.proofs.Words.{rules}
 use Rattle.ob_shell.proofs.session.run_text.Goals as goal
 
 pub returns-clause-serves : goal.returns-clause-serves

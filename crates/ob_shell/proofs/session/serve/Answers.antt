@@ -1,4 +1,4 @@
-use Rattle.std.proofs.Common.{rules}
+use Rattle.ob_shell.proofs.Words.{rules}
 use Rattle.ob_shell.proofs.RunLemmas.{ran_over}
 use Rattle.ob_shell.proofs.TakesLemmas.{ready_with}
 use Rattle.ob_shell.proofs.session.serve.Goals as goal

@@ -1,10 +1,6 @@
-use Rattle.std.proofs.Common.{List, ◌≡◌, ◌∙◌, arith, refl, true, rules, subst, sym}
-use Rattle.std.specs.Io.KnownBytes.{Appends}
-use Rattle.ob_base.specs.declared.access.Access.{Access}
-use Rattle.ob_headline.specs.Tracing.{traced}
+use Rattle.ob_shell.proofs.Words.{Access, Appends, arith, List, machine_of, refl, rules, subst, sym, traced, true, ◌∙◌, ◌≡◌}
 use Rattle.ob_shell.proofs.LetGoLemmas.{answers_from, asked_from, ready_from}
 use Rattle.ob_shell.proofs.TakesLemmas.{stops_unlost}
-use Rattle.ob_shell.specs.Steps.{machine_of}
 use Rattle.ob_shell.proofs.TraceLemmas.{lost_trace, since, until}
 use Rattle.ob_tables.specs.declared.stop.RunStop.TheVariants.{SinkFault}
 use Rattle.ob_shell.proofs.CountLemmas.{traced_cause}

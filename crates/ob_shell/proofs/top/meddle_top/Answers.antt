@@ -1,5 +1,4 @@
-use Rattle.std.specs.Prelude.{string_bytes}
-use Rattle.std.proofs.Common.{Some, None, map}
+use Rattle.ob_shell.proofs.Words.{map, None, Some, string_bytes}
 use Rattle.ob_headline.specs.Usage.{meddle_usage}
 use Rattle.ob_shell.proofs.GeneratingLemmas.{asked_is}
 use Rattle.ob_shell.proofs.MeddleLemmas.{meddle_ran, meddle_summarized, meddled}

@@ -1,8 +1,6 @@
-use Rattle.std.proofs.Common.{◌∙◌, ap, refl, sym}
-use Rattle.ob_gen.specs.Tally.{empty_tally}
-use Rattle.ob_headline.specs.Words.{keys_in, keys_with}
+use Rattle.ob_shell.proofs.Words.{ap, empty_tally, keys_in, refl, stop_of, sym, ◌∙◌}
+use Rattle.ob_headline.specs.Words.{keys_with}
 use Rattle.ob_shell.proofs.TallyLemmas.{cause_flagged, took_whole, tally_after-nil}
-use Rattle.ob_shell.specs.Running.{stop_of}
 use Rattle.ob_shell.proofs.TopLemmas.{shown_source_fault, shown_bad_key, shown_last, shown_ran}
 use Rattle.ob_shell.proofs.TraceLemmas.{traced_none, traced_whole}
 use Rattle.ob_shell.proofs.top.run.Goals as goal

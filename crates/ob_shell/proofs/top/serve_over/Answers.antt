@@ -1,4 +1,4 @@
-use Rattle.std.proofs.Common.{refl}
+use Rattle.ob_shell.proofs.Words.{refl}
 use Rattle.ob_shell.proofs.CloseLemmas.{reported_closed}
 use Rattle.ob_shell.proofs.CountLemmas.{silenced_kept, silenced_rose}
 use Rattle.ob_shell.proofs.TopLemmas.{takes_of}

@@ -1,12 +1,9 @@
-use Rattle.std.proofs.Common.{◌∙◌, ap, refl, subst}
-use Rattle.ob_base.specs.declared.config.Public.{Public}
-use Rattle.ob_headline.specs.Words.{faults_of}
+use Rattle.ob_shell.proofs.Words.{ap, faults_of, Public, refl, ServesAlone, stop_of, StopCause, subst, ◌∙◌}
 use Rattle.ob_shell.proofs.EngageLemmas.{ready_unsaved}
 use Rattle.ob_shell.proofs.SessionLemmas.{ran_after}
 use Rattle.ob_shell.proofs.StandLemmas.{stands_first, stands_flying}
 use Rattle.ob_shell.proofs.TopLemmas.{ran_nothing}
 use Rattle.ob_shell.proofs.TraceLemmas.{traced_none, traced_whole}
-use Rattle.ob_shell.specs.Running.{ServesAlone, StopCause, stop_of}
 use Rattle.ob_shell.proofs.top.serve_with.Goals as goal
 
 pub returns-in-Err-clause-ran : goal.returns-in-Err-clause-ran

@@ -1,6 +1,4 @@
-use Rattle.std.specs.Prelude.{string_bytes}
-use Rattle.std.proofs.Common.{map, refl, Err, ap}
-use Rattle.ob_gen.specs.Tally.{empty_tally}
+use Rattle.ob_shell.proofs.Words.{ap, empty_tally, Err, map, refl, string_bytes}
 use Rattle.ob_headline.specs.Usage.{usage}
 use Rattle.ob_shell.proofs.CloseLemmas.{reported_words, reported_taken}
 use Rattle.ob_shell.proofs.GeneratingLemmas.{seed_is, summarized, unread_summarized}

@@ -1,7 +1,6 @@
-use Rattle.std.proofs.Common.{◌≡◌, [], ◌++◌, ◌≤◌, false, true, drop, length, refl, ◌∙◌, arith}
+use Rattle.ob_shell.proofs.Words.{arith, drop, false, length, Outputs-by, refl, true, [], ◌++◌, ◌∙◌, ◌≡◌, ◌≤◌}
 use Rattle.ob_print.specs.Lines.{trace_text}
 use Rattle.ob_print.specs.Sent.{sends_none}
-use Rattle.ob_print.proofs.CutLemmas.{Outputs-by}
 use Rattle.ob_print.proofs.SentLemmas.{Sends-by, Sends-cut, Sends-lose, Sends-then, flushed, flushed_ok}
 use Rattle.ob_shell.proofs.TraceLemmas.{trace_more, trace_done}
 use Rattle.ob_shell.proofs.trace.write_accesses.Goals as goal

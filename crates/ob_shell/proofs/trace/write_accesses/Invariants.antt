@@ -1,6 +1,5 @@
-use Rattle.std.proofs.Common.{◌≡◌, ◌++◌, ℕ, List, drop}
+use Rattle.ob_shell.proofs.Words.{drop, List, Sends, ℕ, ◌++◌, ◌≡◌}
 use Rattle.ob_print.specs.Lines.{trace_text}
-use Rattle.ob_print.specs.Sent.{Sends}
 use Rattle.ob_shell.proofs.trace.write_accesses.Given as goal
 
 abbrev pub invariant-loop-i : goal.invariant-loop-i

@@ -1,4 +1,4 @@
-use Rattle.std.proofs.Common.{◌+◌, ℕ, [], take, refl, arith, ap}
+use Rattle.ob_shell.proofs.Words.{ap, arith, refl, take, ℕ, [], ◌+◌}
 use Rattle.std.proofs.KnownBytes.{Consumes-nil}
 use Rattle.ob_shell.proofs.FeedLemmas.{held_byte, read_byte}
 use Rattle.ob_shell.proofs.feed.Feed.next.Goals as goal

@@ -1,15 +1,9 @@
-use Rattle.std.proofs.Common.{List, Ok, [], ◌∷◌, refl, subst, sym, ◌∙◌}
-use Rattle.ob_gen.specs.declared.tally.Tally.{Tally}
+use Rattle.ob_shell.proofs.Words.{count_of, flights_of, List, machine_of, public_of, session_stop, Stmt, subst, sym, Tally, ◌∙◌}
 use Rattle.ob_shell.proofs.CountLemmas.{same_cause}
 use Rattle.ob_shell.proofs.GatherLemmas.{begins_none, begins_so}
 use Rattle.ob_shell.proofs.TakesLemmas.{ready_with, takes_halted, takes_one}
 use Rattle.ob_shell.proofs.session.Server.begin.Goals as goal
-use Rattle.ob_shell.specs.Flying.{flights_of}
-use Rattle.ob_shell.specs.Steps.{machine_of}
 use Rattle.ob_shell.specs.Waiting.{GoesAlong}
-use Rattle.ob_sql.specs.declared.stmt.Stmt.{Stmt}
-use Rattle.ob_tables.specs.Agreeing.{count_of, public_of}
-use Rattle.ob_tables.specs.Stops.{session_stop}
 
 pub gather-requires-clause-goes : goal.gather-requires-clause-goes
 gather-requires-clause-goes g c =

@@ -1,8 +1,6 @@
-use Rattle.std.proofs.Common.{◌≡◌, ℕ, Bool, false, true, List, [], ◌∷◌, if◌then◌else◌, ap}
+use Rattle.ob_shell.proofs.Words.{ap, Bool, false, flights_of, if◌then◌else◌, List, machine_of, true, ℕ, [], ◌∷◌, ◌≡◌}
 use Rattle.ob_headline.specs.Texts.{tail_text, has_words, reading_of}
 use Rattle.ob_shell.proofs.TakesLemmas.{takes_idle, takes_of_text}
-use Rattle.ob_shell.specs.Flying.{flights_of}
-use Rattle.ob_shell.specs.Steps.{machine_of}
 use Rattle.ob_shell.proofs.session.Server.finish.Goals as goal
 
 tail_text-by : (rest : List ℕ) (b : Bool) → has_words (reading_of rest) ≡ b → tail_text rest ≡ (if b then rest ∷ [] else [])

@@ -1,12 +1,8 @@
-use Rattle.std.proofs.Common.{◌≡◌, ◌∙◌, List, [], refl, subst, sym}
-use Rattle.ob_gen.specs.declared.tally.Tally.{Tally}
+use Rattle.ob_shell.proofs.Words.{count_of, List, public_of, session_stop, Stmt, subst, sym, Tally, [], ◌∙◌}
 use Rattle.ob_shell.proofs.CountLemmas.{same_cause}
 use Rattle.ob_shell.proofs.TakesLemmas.{ready_with, takes_as, takes_broken}
 use Rattle.ob_shell.proofs.session.Server.flush.Goals as goal
 use Rattle.ob_shell.specs.Waiting.{AreBatched}
-use Rattle.ob_sql.specs.declared.stmt.Stmt.{Stmt}
-use Rattle.ob_tables.specs.Agreeing.{count_of, public_of}
-use Rattle.ob_tables.specs.Stops.{session_stop}
 
 pub serve_waiting-requires : goal.serve_waiting-requires
 serve_waiting-requires g c = record {

@@ -1,14 +1,8 @@
-use Rattle.std.proofs.Common.{◌≡◌, Err, List, Ok, [], ◌∷◌, ◌++◌, ◌∙◌, ap, arith, length, refl, subst, sym}
-use Rattle.ob_base.specs.declared.config.Public.{Public}
+use Rattle.ob_shell.proofs.Words.{ap, arith, count_of, Err, flights_of, length, List, machine_of, Ok, Public, public_of, refl, skeleton, Stmt, subst, sym, [], ◌++◌, ◌∙◌, ◌∷◌, ◌≡◌}
 use Rattle.ob_shell.proofs.GatherLemmas.{batch_more, comes_before, full_by, gathered_more, pushed, takes_full, takes_gathered, unpushed, waits_by}
 use Rattle.ob_shell.proofs.TakesLemmas.{takes_idle}
 use Rattle.ob_shell.proofs.session.Server.gather.Goals as goal
-use Rattle.ob_shell.specs.Flying.{flights_of}
-use Rattle.ob_shell.specs.Steps.{machine_of}
 use Rattle.ob_shell.specs.Waiting.{AreBatched, gather_most}
-use Rattle.ob_sql.specs.Skeleton.{skeleton}
-use Rattle.ob_sql.specs.declared.stmt.Stmt.{Stmt}
-use Rattle.ob_tables.specs.Agreeing.{count_of, public_of}
 
 pub returns-then-is_err-clause-takes : goal.returns-then-is_err-clause-takes
 returns-then-is_err-clause-takes g c =

@@ -1,4 +1,4 @@
-use Rattle.std.proofs.Common.{arith, ◌∙◌, refl, Err}
+use Rattle.ob_shell.proofs.Words.{arith, Err, refl, ◌∙◌}
 use Rattle.ob_shell.proofs.ServerLemmas.{keeps_all, keeps_then}
 use Rattle.ob_shell.proofs.FeedLemmas.{fed_smaller}
 use Rattle.ob_shell.proofs.ReadLemmas.{by_byte, by_room, finish_reads, more_cause, more_quiet, more_traced, read_input_limit, read_source_fault, so_far_end, turn_reads}

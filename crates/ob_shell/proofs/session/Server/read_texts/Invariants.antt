@@ -1,14 +1,9 @@
-use Rattle.std.proofs.Common.{◌≡◌, ◌<◌, ◌+◌, ◌-◌, length}
+use Rattle.ob_shell.proofs.Words.{count_of, flights_of, IsFedBy, IsReady, length, machine_of, public_of, TracedAll, ◌+◌, ◌-◌, ◌<◌, ◌≡◌}
 use Rattle.ob_headline.specs.Texts.{text_max}
 use Rattle.ob_shell.proofs.session.Server.read_texts.Given as goal
-use Rattle.ob_shell.specs.Flying.{flights_of}
-use Rattle.ob_shell.specs.Feeding.{IsFedBy}
 use Rattle.ob_shell.specs.Running.{SoFar}
 use Rattle.ob_shell.specs.Servers.{KeepsServer}
-use Rattle.ob_shell.specs.Steps.{machine_of, IsReady}
-use Rattle.ob_shell.specs.Traces.{TracedAll}
 use Rattle.ob_shell.specs.Waiting.{AreWaiting}
-use Rattle.ob_tables.specs.Agreeing.{count_of, public_of}
 
 abbrev pub invariant-bytes : goal.invariant-bytes
 invariant-bytes g l =

@@ -1,5 +1,4 @@
-use Rattle.std.proofs.Common.{◌≡◌, Err, Ok, ap, inl, ◌∙◌}
-use Rattle.ob_gen.specs.declared.tally.Tally.{Tally}
+use Rattle.ob_shell.proofs.Words.{ap, count_of, Err, inl, Ok, public_of, session_stop, Tally, ◌∙◌, ◌≡◌}
 use Rattle.ob_shell.proofs.CountLemmas.{same_cause}
 use Rattle.ob_shell.proofs.GatherLemmas.{are_batched}
 use Rattle.ob_shell.proofs.RunLemmas.{ran_flushed, ran_unflushed}
@@ -7,8 +6,6 @@ use Rattle.ob_shell.proofs.ServedLemmas.{alone_read, source_later, stop_stays, w
 use Rattle.ob_shell.proofs.TraceLemmas.{traced_cut, traced_then, traced_whole}
 use Rattle.ob_shell.proofs.session.Server.serve_feed.Goals as goal
 use Rattle.ob_shell.specs.declared.session.Break.TheVariants.{Served, Unread}
-use Rattle.ob_tables.specs.Agreeing.{count_of, public_of}
-use Rattle.ob_tables.specs.Stops.{session_stop}
 
 pub flush-requires : goal.flush-requires
 flush-requires g c =

@@ -1,12 +1,7 @@
-use Rattle.std.proofs.Common.{Err, Ok, Option, refl, true, ◌∙◌, [], ◌∷◌, inl}
-use Rattle.ob_print.proofs.CutLemmas.{Outputs-fault}
+use Rattle.ob_shell.proofs.Words.{count_of, Err, flights_of, Gathered, inl, machine_of, Ok, Outputs-fault, public_of, refl, session_stop, true, [], ◌∙◌, ◌∷◌}
 use Rattle.ob_shell.proofs.CountLemmas.{same_cause}
 use Rattle.ob_shell.proofs.GatherLemmas.{are_batched, comes_free}
 use Rattle.ob_shell.proofs.TakesLemmas.{comes_by, loses_misspelt, takes_broken, takes_misspelt, takes_then}
-use Rattle.ob_shell.specs.Flying.{flights_of}
-use Rattle.ob_shell.specs.Steps.{Gathered, machine_of}
-use Rattle.ob_tables.specs.Agreeing.{count_of, public_of}
-use Rattle.ob_tables.specs.Stops.{session_stop}
 use Rattle.ob_tables.specs.declared.stop.RunStop.TheVariants.{SinkFault}
 use Rattle.ob_shell.proofs.session.Server.take_misspelt.Goals as goal
 

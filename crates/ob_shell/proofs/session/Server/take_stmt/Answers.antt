@@ -1,12 +1,9 @@
-use Rattle.std.proofs.Common.{◌≡◌, List, Ok, [], ◌∷◌, ◌∙◌, ap, false, sym}
+use Rattle.ob_shell.proofs.Words.{count_of, false, Ok, public_of, session_stop, sym, [], ◌∙◌, ◌∷◌, ◌≡◌}
 use Rattle.ob_shell.proofs.CountLemmas.{same_cause}
 use Rattle.ob_shell.proofs.GatherLemmas.{are_batched, comes_free, free_behind, free_more, goes_more, idle_public}
 use Rattle.ob_shell.proofs.TakesLemmas.{comes_by, takes_broken, takes_more_by, takes_more_then}
 use Rattle.ob_shell.proofs.session.Server.take_stmt.Goals as goal
 use Rattle.ob_shell.specs.Waiting.{goes_along}
-use Rattle.ob_sql.specs.declared.stmt.Stmt.{Stmt}
-use Rattle.ob_tables.specs.Agreeing.{count_of, public_of}
-use Rattle.ob_tables.specs.Stops.{session_stop}
 
 pub gather-requires-clause-goes : goal.gather-requires-clause-goes
 gather-requires-clause-goes g c =

@@ -1,13 +1,9 @@
-use Rattle.std.proofs.Common.{Err, List, refl, subst, ℕ}
-use Rattle.ob_headline.specs.Statements.{Spells}
+use Rattle.ob_shell.proofs.Words.{Err, flights_of, List, machine_of, public_of, refl, Spells, subst, ℕ}
 use Rattle.ob_parse.specs.Refusal.{IsRefused}
 use Rattle.ob_parse.specs.declared.parser.ParseErr.{ParseErr}
 use Rattle.ob_token.specs.Tokens.{tokens_of}
 use Rattle.ob_shell.proofs.GatherLemmas.{comes_free}
 use Rattle.ob_shell.proofs.TakesLemmas.{takes_idle}
-use Rattle.ob_shell.specs.Flying.{flights_of}
-use Rattle.ob_shell.specs.Steps.{machine_of}
-use Rattle.ob_tables.specs.Agreeing.{public_of}
 use Rattle.ob_shell.proofs.session.Server.take_text.Goals as goal
 
 pub take_misspelt-requires-clause-spells : goal.take_misspelt-requires-clause-spells

@@ -1,10 +1,7 @@
-use Rattle.std.proofs.Common.{Err, Ok}
+use Rattle.ob_shell.proofs.Words.{Err, flights_of, machine_of, Ok, public_of}
 use Rattle.ob_shell.proofs.GatherLemmas.{comes_free}
 use Rattle.ob_shell.proofs.RunLemmas.{at_limit_is_over}
 use Rattle.ob_shell.proofs.TakesLemmas.{takes_idle, turns_by}
-use Rattle.ob_shell.specs.Flying.{flights_of}
-use Rattle.ob_shell.specs.Steps.{machine_of}
-use Rattle.ob_tables.specs.Agreeing.{public_of}
 use Rattle.ob_shell.proofs.session.Server.turn.Goals as goal
 
 pub returns-in-Ok-More-clause-takes : goal.returns-in-Ok-More-clause-takes
