@@ -1,49 +1,27 @@
 -- Sessions of the model that differ in the order of their tables, in where these lie, in how many accesses were asked, and in
 -- what is drawn: they answer alike, as long as no table is an index, and no statement comes too late.
-use Rattle.std.specs.Prelude.{⊤, IsSome, is_some, if◌then◌else◌}
-use Rattle.std.proofs.Common.{◌≡◌, ◌<◌, ◌≤◌, ◌+◌, ◌^◌, ◌++◌, ℕ, Bool, true, false, List, [], ◌∷◌, length, map, Option, Some, None, Ok, Err, refl, sym, ◌∙◌, ap, subst, arith, length-append}
-use Rattle.std.proofs.lemmas.Bool.Decides.{nat_tests}
-use Rattle.std.specs.Option.{option_map_or, option_or}
+use Rattle.ob_headline.proofs.Words.{after, after_all, after_room, Answer, AnswersIn, AnswersMeant, ap, AreAlike, AreFlat, arith, Bool, Broken, early_refusal, ended, Ending, Err, failures, false, Gathering, gathering_after, Heading, headings, headings-database, headings_of, if◌then◌else◌, is_full_now, is_some, IsSome, length, length-append, limits_of, List, map, nat_tests, next, None, Ok, Option, option_map_or, option_or, outcome_failures, plain, Public, refl, Refusal, script, Seen, seen_now, seen_or_cut, Served, served, Session, settle, Shape, skeleton, Some, Spelt, Static, Stmt, subst, sym, Tables, trace, true, Whole, ℕ, [], ⊤, ◌++◌, ◌+◌, ◌<◌, ◌^◌, ◌∙◌, ◌∷◌, ◌≡◌, ◌≤◌}
 use Rattle.ob_base.specs.Labels.{column_label}
 use Rattle.ob_base.specs.Schemas.{Columns}
-use Rattle.ob_base.specs.Stored.{headings, headings_of}
-use Rattle.ob_base.specs.declared.config.Public.{Public}
-use Rattle.ob_base.specs.declared.refusal.Refusal.{Refusal}
-use Rattle.ob_base.specs.declared.schema.Heading.{Heading}
-use Rattle.ob_base.specs.declared.schema.Shape.{Shape}
-use Rattle.ob_base.specs.declared.seen.End.TheVariants.{Static, Whole}
-use Rattle.ob_base.specs.declared.seen.Seen.{Seen}
 use Rattle.ob_base.specs.declared.skeleton.NewColumn.{NewColumn}
 use Rattle.ob_headline.proofs.BatchLemmas.{IsUncut}
 use Rattle.ob_headline.proofs.InStep.{InStep, joins_step, keeps_step}
-use Rattle.ob_headline.specs.Failures.{failures, outcome_failures}
-use Rattle.ob_headline.specs.Words.{Answer}
-use Rattle.ob_headline.proofs.ServedAlone.{SeenAlone}
-use Rattle.ob_headline.proofs.ServedAlone.{AnswersAlone}
-use Rattle.ob_headline.specs.Meaning.{AnswersAs, AnswersIn, AnswersMeant}
-use Rattle.ob_headline.specs.declared.ending.Ending.{Ending}
+use Rattle.ob_headline.proofs.ServedAlone.{SeenAlone, AnswersAlone}
+use Rattle.ob_headline.specs.Meaning.{AnswersAs}
 use Rattle.ob_mean.proofs.FlatLemmas.{created_flat, makes_flat, no_access, seen_is, settle_is}
 use Rattle.ob_mean.proofs.FlatSessions.{after_flat, room_flat}
-use Rattle.ob_mean.proofs.ReplayLemmas.{after_room}
-use Rattle.ob_mean.proofs.VerdictLemmas.{headings-database}
-use Rattle.ob_mean.specs.Batches.{Gathering, gathering_after, inserts_into}
-use Rattle.ob_mean.specs.Flats.{AreFlat}
+use Rattle.ob_mean.specs.Batches.{inserts_into}
 use Rattle.ob_mean.specs.Prints.{is_join, item_label, label_at, labels_of}
-use Rattle.ob_mean.specs.Refusals.{early_refusal, limits_of}
-use Rattle.ob_mean.specs.Replay.{Broken, How, Alone, CutAfter, With, CutWith, IsCutOff, IsMember, Session, Spelt, after, after_all, head_of, is_full_now, rest_of, seen_now, seen_or_cut, served}
-use Rattle.ob_mean.specs.Settle.{settle, settled}
+use Rattle.ob_mean.specs.Replay.{How, Alone, CutAfter, With, CutWith, IsCutOff, IsMember, head_of, rest_of}
+use Rattle.ob_mean.specs.Settle.{settled}
 use Rattle.ob_mean.specs.Step.{followed}
-use Rattle.ob_mean.specs.Verdict.{Draws, Tables, database, ended, is_late, refusal, seen, seen_started, verdict}
+use Rattle.ob_mean.specs.Verdict.{Draws, database, is_late, refusal, seen, seen_started, verdict}
 use Rattle.ob_mean.specs.declared.answer.Answer.{Answer as Meaning}
-use Rattle.ob_script.specs.Script.{script}
-use Rattle.ob_script.specs.Trace.{Served, next, trace}
-use Rattle.ob_sql.specs.Skeleton.{skeleton}
-use Rattle.ob_sql.specs.declared.stmt.Stmt.{Stmt}
 use Rattle.ob_sql.specs.declared.stmt.Stmt.TheVariants.{Create, Insert, Update, Delete, Drop as DropTable, SelectRows as RowsStmt, SelectTotals as TotalsStmt}
 use Rattle.ob_verdict.proofs.AlikeHeadings.{SameHeadings, columns_same, headings_same, source_same}
 use Rattle.ob_verdict.proofs.AlikeProof.{order_is_nothing}
-use Rattle.ob_verdict.proofs.PlainSettings.{plain, seen_same, settle_same, verdict_same}
-use Rattle.ob_verdict.specs.Alike.{ActsAlike, AreAlike}
+use Rattle.ob_verdict.proofs.PlainSettings.{seen_same, settle_same, verdict_same}
+use Rattle.ob_verdict.specs.Alike.{ActsAlike}
 
 -- their tables are kept, so that none of them is an index
 pub record SessionsAlike (s t : Session) : Type 0 where

@@ -1,13 +1,7 @@
 -- Each write has a number of its own, and where the block at a place was written.
-use Rattle.std.specs.Prelude.{if◌then◌else◌, slice_get}
-use Rattle.std.proofs.Common.{◌≡◌, ◌+◌, ◌-◌, ◌≤◌, ◌<◌, ◌==◌, ◌&&◌, inl, inr, ℕ, zero, suc, Bool, true, false, List, [], ◌∷◌, Some, take, refl, sym, ap, subst, arith}
-use Rattle.std.proofs.lemmas.Bool.{cases_lt}
-use Rattle.std.proofs.lemmas.Bool.Decides.{nat_tests}
-use Rattle.ob_base.specs.Accesses.{nth_write, number_from, writes}
-use Rattle.ob_base.specs.declared.access.Access.{Access}
-use Rattle.ob_base.specs.declared.access.Access.TheVariants.{Make, Read, Write, Discard, Open}
+use Rattle.ob_headline.proofs.Words.{Access, ap, arith, Bool, cases_lt, Discard, false, if◌then◌else◌, inl, inr, List, Make, nat_tests, Open, Read, refl, slice_get, Some, Start, subst, suc, sym, take, true, Write, writes, zero, ℕ, [], ◌&&◌, ◌+◌, ◌-◌, ◌<◌, ◌==◌, ◌∷◌, ◌≡◌, ◌≤◌}
+use Rattle.ob_base.specs.Accesses.{nth_write, number_from}
 use Rattle.ob_headline.specs.Shown.{IsAlone}
-use Rattle.ob_vault.specs.State.{Start}
 
 -- ---- numbers rise with positions
 rises : (asked : List Access) (i j q x : ℕ) → slice_get asked i ≡ Some (Write q x) → i < j → writes (take i asked) + 1 ≤ writes (take j asked)

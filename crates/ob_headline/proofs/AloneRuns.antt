@@ -1,28 +1,11 @@
 -- What is promised of a run of which no statement flies, in terms of statements that are each served alone.
-use Rattle.std.proofs.Common.{◌≡◌, inl, inr, ◌+◌, ◌-◌, ◌≤◌, ◌++◌, ℕ, Bool, List, [], ◌∷◌, length, None, ◌∙◌, ap, subst, arith}
-use Rattle.ob_base.specs.declared.access.Access.{Access}
-use Rattle.ob_base.specs.declared.config.Public.{Public}
-use Rattle.ob_base.specs.declared.seen.Seen.{Seen}
+use Rattle.ob_headline.proofs.Words.{Access, Accesses, AnswersFrom, ap, AreEntries, AreSeen, arith, Base, Bool, Broken, drawing, Ending, FliesNone, FromEach, Headline, inl, inr, keys_by, KeySet, length, List, most_of, None, Outside, Public, Report, seats_of, Seen, Served, session_at, SomeRun, Stmt, StoreState, Story, subst, trace, trace_of, words_of, ℕ, [], ◌++◌, ◌+◌, ◌-◌, ◌∙◌, ◌∷◌, ◌≡◌, ◌≤◌}
 use Rattle.ob_headline.proofs.BaseLemmas.{from_each}
 use Rattle.ob_headline.proofs.ServedAlone.{AnswersAlone, AreOf, SeenAlone, as_alone, entered_alone, seen_alone, seen_of, traced_alone}
-use Rattle.ob_headline.specs.Accesses.{Accesses, AreSeen, StopsWithin}
-use Rattle.ob_headline.specs.Bases.{Base, FromEach, drawing, session_at}
+use Rattle.ob_headline.specs.Accesses.{StopsWithin}
 use Rattle.ob_headline.specs.Failures.{FailsBeside}
-use Rattle.ob_headline.specs.Flights.{AreEntries, FliesNone, most_of, seats_of, trace_of, words_of}
 use Rattle.ob_headline.specs.FullStash.{ReadsFullStash}
-use Rattle.ob_headline.specs.Headline.{Headline}
-use Rattle.ob_headline.specs.Meaning.{AnswersFrom}
-use Rattle.ob_headline.specs.Reruns.{SomeRun, keys_by}
-use Rattle.ob_headline.specs.Story.{Story}
-use Rattle.ob_headline.specs.Words.{Outside}
-use Rattle.ob_headline.specs.declared.ending.Ending.{Ending}
-use Rattle.ob_headline.specs.declared.ending.Report.{Report}
-use Rattle.ob_mean.specs.Replay.{Broken}
 use Rattle.ob_script.specs.Flights.{Entry, all_alone}
-use Rattle.ob_script.specs.Trace.{Served, trace}
-use Rattle.ob_seal.specs.KeySet.{KeySet}
-use Rattle.ob_sql.specs.declared.stmt.Stmt.{Stmt}
-use Rattle.ob_store.specs.State.{StoreState}
 
 -- what is seen of its statements, and what they asked
 pub record RanAlone (base : Base) (keys : KeySet) (ending : Ending) (story : Story) (old new : StoreState) : Type 0 where

@@ -1,17 +1,7 @@
 -- Runs whose tables are kept answer as one run does over all their texts.
-use Rattle.std.specs.Prelude.{MatchBool, ⊤, if◌then◌else◌, nat_lt}
-use Rattle.std.proofs.Common.{◌≡◌, ◌<◌, ◌≤◌, ◌+◌, ◌^◌, ◌++◌, ℕ, Bool, true, false, IsTrue, List, [], ◌∷◌, length, Option, Some, None, Result, Ok, Err, inl, inr, refl, sym, ◌∙◌, ap, subst, arith}
-use Rattle.std.proofs.lemmas.Bool.Decides.{nat_tests}
-use Rattle.std.specs.Option.{option_map_or}
-use Rattle.clap.specs.Words.{Text}
-use Rattle.ob_base.specs.Stored.{headings}
-use Rattle.ob_base.specs.declared.config.Config.{Config}
-use Rattle.ob_base.specs.declared.config.Public.{Public}
-use Rattle.ob_reopen.specs.declared.mark.Mark.{Mark}
-use Rattle.ob_reopen.specs.declared.mark.Mark.TheVariants.{Fresh, InUse, Closed, Begun, Saved}
+use Rattle.ob_headline.proofs.Words.{Access, after_all, Answer, AnswersFrom, ap, AreAlike, AreFlat, arith, BadKey, Base, BeginsFrom, Begun, Bool, Broken, Closed, CloseErr, Closing, closing_named, Config, drawing, Ending, EndsBehind, Err, failures, false, FliesNone, FlightSettings, flying, Fresh, headings, if◌then◌else◌, inl, inr, InUse, is_used_up, IsTrue, KeeperFault, KeeperState, KeptEnding, KeptRegion, keys_of, KeySet, length, List, Mark, mark_made, mark_of, MatchBool, nat_lt, nat_tests, None, Ok, Opened, Option, option_map_or, OtherPack, Outside, Plain, plain, Public, public_with, Ran, refl, Report, Result, RunKept, Saved, seats_of, Served, Session, session_after, session_at, Some, Spelt, start, status_of, StoreState, Story, subst, sym, Tables, Text, trace, trace_of, true, Usage, words_of, ℕ, [], ⊤, ◌++◌, ◌+◌, ◌<◌, ◌^◌, ◌∙◌, ◌∷◌, ◌≡◌, ◌≤◌}
 use Rattle.ob_base.specs.declared.refusal.Stop.TheVariants as Stops
 use Rattle.ob_reopen.proofs.ByNameAlike.{named_alike}
-use Rattle.ob_reopen.specs.Closed.{is_used_up}
 use Rattle.ob_reopen.specs.Resting.{Rests, by_name}
 use Rattle.ob_headline.proofs.AlikeSessions.{AreAlone, GoesOn, SessionsAlike, after_alone, alone_both, answers_alone, answers_on, are_alone, grows_on, hows_of, keeps_plain}
 use Rattle.ob_headline.proofs.BeginsAlike.{Begins, begins_anew, begins_reopened}
@@ -20,44 +10,21 @@ use Rattle.ob_headline.proofs.SettingLemmas.{kept_settings}
 use Rattle.ob_headline.proofs.MarkLemmas.{marks_held}
 use Rattle.ob_headline.proofs.RerunLemmas.{answered_all}
 use Rattle.ob_headline.proofs.StopLemmas.{begun_stops, closing_stops}
-use Rattle.ob_headline.specs.Bases.{Base, Opened, drawing, flying, public_with, session_at, start}
-use Rattle.ob_headline.specs.Endings.{status_of}
-use Rattle.ob_headline.specs.Failures.{failures}
-use Rattle.ob_headline.specs.Keeping.{BeginsFrom, EndsWith, closing_named, kept_status}
-use Rattle.ob_headline.specs.KeptHeadline.{ClosesTables, EndsBehind, EndsUnkeyed, IsClosed, RunKept, SessionKept, begun_at}
-use Rattle.ob_headline.specs.KeptMarks.{HeldAfter, mark_made}
+use Rattle.ob_headline.specs.Keeping.{EndsWith, kept_status}
+use Rattle.ob_headline.specs.KeptHeadline.{ClosesTables, EndsUnkeyed, IsClosed, SessionKept, begun_at}
+use Rattle.ob_headline.specs.KeptMarks.{HeldAfter}
 use Rattle.ob_headline.specs.KeptRuns.{AnswerAsOne, GoOn, OneRun, first_of, all_answers, all_seen, all_spelt, count_in, secret_in, seen_in, spelt_in}
 use Rattle.ob_headline.specs.Settings.{IsTaken, flight_of, settings_of}
 use Rattle.ob_headline.specs.Usage.{is_kept, is_traced, kept_usage}
-use Rattle.ob_headline.specs.Words.{Answer, Outside, any_refused, keys_in}
+use Rattle.ob_headline.specs.Words.{any_refused, keys_in}
 use Rattle.ob_headline.proofs.AloneRuns.{RanAlone, are_of, headline_alone, meant_alone}
 use Rattle.ob_headline.proofs.BaseLemmas.{from_flying, unflown}
 use Rattle.ob_headline.proofs.ServedAlone.{AnswersAlone, AreOf, as_alone, behind_all, from_alone, of_both}
-use Rattle.ob_headline.specs.Flights.{FliesNone, seats_alone, seats_of, trace_of, words_of}
-use Rattle.ob_headline.specs.Meaning.{AnswersFrom, session_after}
+use Rattle.ob_headline.specs.Flights.{seats_alone}
 use Rattle.ob_script.specs.Flights.{Entry, drawn}
-use Rattle.ob_base.specs.declared.access.Access.{Access}
-use Rattle.ob_headline.specs.declared.ending.Ending.{Ending}
-use Rattle.ob_headline.specs.declared.ending.Ending.TheVariants.{Usage, BadKey, Ran}
-use Rattle.ob_headline.specs.declared.ending.KeptEnding.{KeptEnding}
-use Rattle.ob_headline.specs.declared.ending.KeptEnding.TheVariants.{Plain, OtherPack, OtherKey, Saved as SavedBefore, NoMark, NotClosed as LeftOpen, KeeperFault, StoreFault}
-use Rattle.ob_headline.specs.declared.ending.Report.{Report}
-use Rattle.ob_mean.specs.Flats.{AreFlat}
-use Rattle.ob_mean.specs.Replay.{Broken, Session, Spelt, after_all}
-use Rattle.ob_mean.specs.Verdict.{Tables}
-use Rattle.ob_reopen.specs.Closings.{mark_of}
-use Rattle.ob_reopen.specs.Keepers.{KeeperState}
-use Rattle.ob_reopen.specs.declared.closing.Closing.{Closing}
-use Rattle.ob_reopen.specs.declared.fault.CloseErr.{CloseErr}
-use Rattle.ob_script.specs.Trace.{Served, trace}
-use Rattle.ob_seal.specs.KeySet.{KeySet}
-use Rattle.ob_seal.specs.Sealed.{keys_of}
-use Rattle.ob_store.specs.State.{KeptRegion, Lie, StoreState}
-use Rattle.ob_verdict.proofs.PlainSettings.{plain}
+use Rattle.ob_headline.specs.declared.ending.KeptEnding.TheVariants.{OtherKey, Saved as SavedBefore, NoMark, NotClosed as LeftOpen, StoreFault}
+use Rattle.ob_store.specs.State.{Lie}
 use Rattle.ob_verdict.proofs.AlikeTables.{alike_chained, alike_turned}
-use Rattle.ob_verdict.specs.Alike.{AreAlike}
-use Rattle.ob_headline.specs.Story.{Story}
-use Rattle.ob_headline.specs.declared.flight.FlightSettings.{FlightSettings}
 
 -- ---- a run that came to its end
 -- by its status

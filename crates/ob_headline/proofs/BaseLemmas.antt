@@ -1,10 +1,7 @@
 -- What statements go on from.
-use Rattle.std.proofs.Common.{◌≡◌, ap, [], Option, Some, None}
-use Rattle.ob_headline.specs.Bases.{Base, FromEach, HoldsFrom, Opened, flying, session_at}
-use Rattle.ob_headline.specs.Flights.{FliesNone, most_flown}
-use Rattle.ob_headline.specs.declared.flight.FlightSettings.{FlightSettings}
-use Rattle.ob_mean.specs.Replay.{Session}
-use Rattle.ob_mean.specs.Verdict.{Tables}
+use Rattle.ob_headline.proofs.Words.{ap, Base, FliesNone, FlightSettings, flying, FromEach, None, Opened, Option, Session, session_at, Some, Tables, [], ◌≡◌}
+use Rattle.ob_headline.specs.Bases.{HoldsFrom}
+use Rattle.ob_headline.specs.Flights.{most_flown}
 
 -- how SELECTs fly changes nothing of it
 pub from_flying : (flight : Option FlightSettings) (base : Base) (P : Session → Type 0) → FromEach (flying flight base) P → FromEach base P

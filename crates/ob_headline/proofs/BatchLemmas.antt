@@ -1,26 +1,11 @@
 -- What is seen of INSERTs that are served together, and what is gathered.
-use Rattle.std.specs.Prelude.{⊤, ◌&&◌, if◌then◌else◌, is_some, nat_le}
-use Rattle.std.proofs.Common.{◌≡◌, ℕ, Bool, true, false, IsTrue, List, [], ◌∷◌, length, Option, Some, None, refl, sym, ◌∙◌, ap}
-use Rattle.std.specs.Option.{is_none, option_map}
-use Rattle.ob_base.specs.declared.config.Plan.{Plan}
-use Rattle.ob_base.specs.declared.config.Plan.TheVariants.{Small, Large, Continuous, Hash}
-use Rattle.ob_base.specs.declared.config.Public.{Public}
-use Rattle.ob_base.specs.declared.refusal.Refusal.{Refusal}
-use Rattle.ob_base.specs.declared.seen.End.{End}
-use Rattle.ob_base.specs.declared.seen.End.TheVariants.{Static, Whole, AfterCount, Joined, Cut}
-use Rattle.ob_base.specs.declared.seen.Seen.{Seen}
-use Rattle.ob_headline.specs.Batches.{Joins, is_failed}
+use Rattle.ob_headline.proofs.Words.{AfterCount, ap, batch_most, Bool, Continuous, Cut, early_refusal, End, ended, false, Gathering, gathering_after, goes_into, headings, how_now, if◌then◌else◌, is_cut, is_failed, is_joined, is_none, is_some, IsTrue, Joins, length, limits_of, List, nat_le, None, Option, option_map, Plan, Public, refl, Refusal, refusal_now, Seen, seen_now, seen_or_cut, Session, skeleton, Some, Static, Stmt, sym, Tables, true, Whole, ℕ, [], ⊤, ◌&&◌, ◌∙◌, ◌∷◌, ◌≡◌}
 use Rattle.ob_mean.proofs.BatchLemmas.{none_begin}
-use Rattle.ob_mean.specs.Batches.{Gathering, and_one, batch_most, begun_by, gathering_after, goes_into, inserts_flat, is_cut, is_joined, leaves_room}
-use Rattle.ob_mean.specs.Refusals.{early_refusal, limits_of}
-use Rattle.ob_mean.specs.Replay.{How, Alone, CutAfter, With, CutWith, Session, how_now, seen_now, seen_or_cut}
-use Rattle.ob_mean.specs.Verdict.{Accessed, Draws, Tables, accessed, counted, ended, is_late, plan_for, seen_by, seen_served, seen_started, seen_with, selected_places, source_slots}
-use Rattle.ob_base.specs.Stored.{headings}
+use Rattle.ob_mean.specs.Batches.{and_one, begun_by, inserts_flat, leaves_room}
+use Rattle.ob_mean.specs.Replay.{How, Alone, CutAfter, With, CutWith}
+use Rattle.ob_mean.specs.Verdict.{Accessed, Draws, accessed, counted, is_late, plan_for, seen_by, seen_served, seen_started, seen_with, selected_places, source_slots}
 use Rattle.ob_row.specs.Slots.{is_consecutive}
-use Rattle.ob_sql.specs.Skeleton.{skeleton}
-use Rattle.ob_sql.specs.declared.stmt.Stmt.{Stmt}
-use Rattle.ob_sql.specs.declared.stmt.Stmt.TheVariants.{Create, Insert, Update, Delete, Drop as DropTable, SelectRows as RowsStmt, SelectTotals as TotalsStmt}
-use Rattle.ob_verdict.specs.Outcomes.{refusal_now}
+use Rattle.ob_sql.specs.declared.stmt.Stmt.TheVariants.{SelectRows as RowsStmt}
 
 -- ---- how a statement ends by its meaning
 module _ (P : End → Type 0) (static : P Static) (whole : P Whole) (behind : P AfterCount) (p : Public) where

@@ -1,17 +1,9 @@
 -- The session of the model that a run's statements go on from, beside one that is alike.
-use Rattle.std.proofs.Common.{◌≡◌, true, [], Option, Some, sym, ◌∙◌, ap, subst}
-use Rattle.ob_base.specs.Stored.{headings, headings_of}
-use Rattle.ob_base.specs.declared.config.Config.{Config}
+use Rattle.ob_headline.proofs.Words.{ap, AreAlike, AreFlat, Base, Config, drawing, fresh, FromEach, headings, headings_of, KeySet, Opened, Option, plain, public_with, Session, session_at, Some, subst, sym, Tables, true, [], ◌∙◌, ◌≡◌}
 use Rattle.ob_headline.proofs.AlikeSessions.{SessionsAlike}
 use Rattle.ob_headline.proofs.FlatLemmas.{rested_flat}
 use Rattle.ob_headline.proofs.InStep.{InStep}
-use Rattle.ob_headline.specs.Bases.{Base, FromEach, Opened, Rested, drawing, fresh, public_with, reopened, session_at}
-use Rattle.ob_mean.specs.Flats.{AreFlat}
-use Rattle.ob_mean.specs.Replay.{Session}
-use Rattle.ob_mean.specs.Verdict.{Tables}
-use Rattle.ob_seal.specs.KeySet.{KeySet}
-use Rattle.ob_verdict.proofs.PlainSettings.{plain}
-use Rattle.ob_verdict.specs.Alike.{AreAlike}
+use Rattle.ob_headline.specs.Bases.{Rested, reopened}
 
 -- what is said of each session that the run may go on from holds of this one
 pub record Begins (keys : KeySet) (base : Base) (t : Session) : Type 1 where

@@ -1,33 +1,14 @@
 -- What a run begins with, where its tables are kept, and what lies in the store once it ended.
-use Rattle.std.specs.Prelude.{if◌then◌else◌, ltb, slice_get}
-use Rattle.std.proofs.Common.{◌≡◌, ◌+◌, ◌<◌, ◌==◌, ◌&&◌, inl, inr, ℕ, suc, Bool, false, List, [], ◌∷◌, Option, Some, None, Ok, Err, refl, sym, ◌∙◌, ap, subst, arith}
-use Rattle.std.proofs.lemmas.Bool.Decides.{nat_tests}
-use Rattle.std.specs.Option.{option_map_or}
-use Rattle.ob_base.specs.declared.config.Config.{Config}
-use Rattle.ob_reopen.specs.declared.mark.Mark.{Mark}
-use Rattle.ob_reopen.specs.declared.mark.Mark.TheVariants.{Fresh, InUse, Closed, Begun, Saved}
+use Rattle.ob_headline.proofs.Words.{Answer, ap, arith, BadKey, Base, BeginsFrom, Bool, Closed, Closing, closing_named, Config, Ending, EndsBehind, Err, false, FlightSettings, flying, Fresh, fresh, if◌then◌else◌, inl, inr, IsSealed, KeeperState, KeptEnding, keys_of, KeySet, List, Listed, Mark, nat_tests, None, Ok, Option, option_map_or, Outside, Ran, refl, Report, RunKept, slice_get, Some, StoreState, Story, subst, suc, sym, Usage, ℕ, [], ◌&&◌, ◌+◌, ◌<◌, ◌==◌, ◌∙◌, ◌∷◌, ◌≡◌}
+use Rattle.std.specs.Prelude.{ltb}
 use Rattle.ob_reopen.specs.Reopened.{number_given}
 use Rattle.ob_headline.proofs.LeftLemmas.{shows_all}
-use Rattle.ob_headline.specs.Bases.{Base, flying, fresh}
-use Rattle.ob_headline.specs.Keeping.{BeginsFrom, closing_named}
-use Rattle.ob_headline.specs.KeptHeadline.{EndsBehind, PassesBoth, RunKept}
+use Rattle.ob_headline.specs.KeptHeadline.{PassesBoth}
 use Rattle.ob_headline.specs.KeyLine.{first_line, secret_of}
 use Rattle.ob_headline.specs.Shown.{IsBegun, ShowsKept}
-use Rattle.ob_headline.specs.Words.{Answer, Outside, keys_in}
-use Rattle.ob_headline.specs.Sealing.{IsSealed, PassesHere, SealsOwn}
-use Rattle.ob_headline.specs.declared.ending.Ending.{Ending}
-use Rattle.ob_headline.specs.declared.ending.Ending.TheVariants.{Usage, BadKey, Ran}
-use Rattle.ob_headline.specs.declared.ending.KeptEnding.{KeptEnding}
-use Rattle.ob_headline.specs.declared.ending.Report.{Report}
-use Rattle.ob_reopen.specs.Keepers.{KeeperState}
+use Rattle.ob_headline.specs.Words.{keys_in}
+use Rattle.ob_headline.specs.Sealing.{PassesHere, SealsOwn}
 use Rattle.ob_reopen.specs.Limits.{blocks_of}
-use Rattle.ob_reopen.specs.declared.closing.Closing.{Closing}
-use Rattle.ob_reopen.specs.declared.listed.Listed.{Listed}
-use Rattle.ob_seal.specs.KeySet.{KeySet}
-use Rattle.ob_seal.specs.Sealed.{keys_of}
-use Rattle.ob_store.specs.State.{StoreState}
-use Rattle.ob_headline.specs.Story.{Story}
-use Rattle.ob_headline.specs.declared.flight.FlightSettings.{FlightSettings}
 
 -- ---- what a run begins with
 pub begun_fresh : (settings : Option Config) → IsBegun (fresh settings)

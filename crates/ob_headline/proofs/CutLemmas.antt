@@ -1,28 +1,9 @@
 -- A statement that was cut off asks a first part of what it asks whole.
-use Rattle.std.specs.Prelude.{nat_le, nat_lt}
-use Rattle.std.proofs.Common.{◌≡◌, ◌⊎◌, inl, inr, ◌+◌, ◌-◌, ◌*◌, ◌≤◌, ◌<◌, ℕ, Bool, true, false, List, [], ◌++◌, length, take, drop, Option, Some, None, refl, sym, ◌∙◌, ap, subst, append-nil, append_assoc, arith}
-use Rattle.std.proofs.lemmas.Bool.Decides.{nat_tests}
-use Rattle.std.proofs.lemmas.List.{length-append, take-append-drop, take-append-le}
-use Rattle.std.specs.Option.{option_map_or}
-use Rattle.ob_base.specs.Accesses.{discard_at, write_at}
-use Rattle.ob_base.specs.Indexes.{by_shape, height_of}
-use Rattle.ob_base.specs.Limits.{buffered_blocks}
-use Rattle.ob_base.specs.Lists.{each}
-use Rattle.ob_base.specs.Stored.{Stored, stored_at, stored_regions}
-use Rattle.ob_base.specs.declared.access.Access.{Access}
-use Rattle.ob_base.specs.declared.config.Plan.{Plan}
-use Rattle.ob_base.specs.declared.config.Public.{Public}
-use Rattle.ob_base.specs.declared.schema.Shape.{Shape}
-use Rattle.ob_base.specs.declared.schema.Shape.TheVariants.{Flat, Indexed}
-use Rattle.ob_base.specs.declared.seen.End.{End}
-use Rattle.ob_base.specs.declared.seen.End.TheVariants.{Whole, Cut}
-use Rattle.ob_base.specs.declared.seen.Seen.{Seen}
-use Rattle.ob_base.specs.declared.skeleton.Skeleton.{Skeleton}
+use Rattle.ob_headline.proofs.Words.{Access, ap, append-nil, append_assoc, arith, Bool, buffered_blocks, by_shape, count_part, Cut, discard_at, drop, each, End, false, Flat, height_of, Indexed, inl, inr, insert_part, join_part, length, length-append, List, nat_le, nat_lt, nat_tests, None, Option, option_map_or, path_read, path_write, Plan, Public, refl, rewrite_part, Seen, Shape, Skeleton, Some, Stored, stored_at, stored_regions, subst, sym, take, take-append-drop, take-append-le, true, Whole, write_at, ℕ, [], ◌*◌, ◌++◌, ◌+◌, ◌-◌, ◌<◌, ◌∙◌, ◌≡◌, ◌≤◌, ◌⊎◌}
 use Rattle.ob_base.specs.declared.skeleton.Skeleton.TheVariants.{Create, Insert, Update, Delete, Drop as DropTable, Rows, Groups}
 use Rattle.ob_base.specs.declared.skeleton.Source.TheVariants.{Table as OneTable, Join}
 use Rattle.ob_headline.specs.Words.{Begins}
 use Rattle.ob_mean.specs.Replay.{cut_at, count_end, done_of, ending_len, held_if, walk_end}
-use Rattle.ob_script.specs.Parts.{count_part, insert_part, join_part, path_read, path_write, rewrite_part}
 use Rattle.ob_script.specs.Script.{behind_change, behind_count, blocks_of, extent_of, join_script, joined_extent, padded_part, result_part, rows_width, flat_script, index_part_of, mutation_script, shape_script, table_script, whole_script}
 
 take_begins : (n : ℕ) (part rest : List Access) → Begins (take n part) (part ++ rest)

@@ -1,51 +1,28 @@
 -- Texts that take effect in a session do so in one that is alike, and are answered alike.
-use Rattle.std.specs.Prelude.{◌↔◌, ◌==◌, if◌then◌else◌}
-use Rattle.std.specs.Option.{option_map_or, option_or}
-use Rattle.std.proofs.Common.{◌≡◌, ◌<◌, ◌+◌, ◌^◌, ◌++◌, ℕ, suc, Bool, true, false, IsTrue, List, [], ◌∷◌, length, map, take, Option, Some, None, Ok, Err, refl, sym, ◌∙◌, ap, subst, arith, length-append}
+use Rattle.ob_headline.proofs.Words.{after, after_all, after_room, Answer, AnswersIn, AnswersMeant, ap, arith, Bool, Broken, by_shape, early_refusal, Ending, Err, false, Flat, Gathering, gathering_after, Heading, headings, headings-database, if◌then◌else◌, Indexed, is_failed, is_full_now, IsTrue, Joins, Lawful, length, length-append, limits_of, List, map, next, None, Ok, Option, option_map_or, option_or, plain, Public, refl, Refusal, refusal_now, Refused, script, Seen, seen_now, seen_or_cut, Served, served, Session, session_after, settle, Shape, skeleton, Some, Spelt, Stmt, Stored, stored_at, StoreFault, subst, suc, sym, Tables, take, trace, true, ℕ, [], ◌++◌, ◌+◌, ◌<◌, ◌==◌, ◌^◌, ◌∙◌, ◌∷◌, ◌≡◌}
+use Rattle.std.specs.Prelude.{◌↔◌}
 use Rattle.ob_base.specs.Refusals.{is_store_fault}
-use Rattle.ob_base.specs.Stored.{Stored, headings, stored_at}
-use Rattle.ob_base.specs.Indexes.{by_shape}
 use Rattle.ob_base.specs.Limits.{buffered}
 use Rattle.ob_base.specs.Schemas.{key_place}
-use Rattle.ob_base.specs.declared.config.Public.{Public}
-use Rattle.ob_base.specs.declared.refusal.Refusal.{Refusal}
-use Rattle.ob_base.specs.declared.refusal.Refusal.TheVariants.{Duplicate, Full as FullTable, KeyRange, StoreFault}
-use Rattle.ob_base.specs.declared.schema.Heading.{Heading}
-use Rattle.ob_base.specs.declared.schema.Shape.{Shape}
-use Rattle.ob_base.specs.declared.schema.Shape.TheVariants.{Flat, Indexed}
-use Rattle.ob_base.specs.declared.seen.Seen.{Seen}
+use Rattle.ob_base.specs.declared.refusal.Refusal.TheVariants.{Duplicate, Full as FullTable, KeyRange}
 use Rattle.ob_headline.proofs.AlikeSessions.{SessionsAlike, TablesAlike, after_alike, answers_alike, grows, parted_alike, settled_alike}
 use Rattle.ob_headline.proofs.BatchLemmas.{sound_now}
 use Rattle.ob_headline.specs.Accesses.{Says}
-use Rattle.ob_headline.specs.Batches.{Joins, is_failed}
 use Rattle.ob_headline.proofs.ServedAlone.{AnswersAlone, AreOf, SeenAlone, alone_from, behind_alone, head_taken, rest_taken}
 use Rattle.ob_headline.specs.Flights.{Seat, at_seat}
-use Rattle.ob_headline.specs.Meaning.{AnswersIn, AnswersMeant, session_after}
 use Rattle.ob_headline.specs.SavedHeadline.{answered_by, left_by, taken_by}
 use Rattle.ob_headline.specs.SavedRuns.{AnsweredInOne, Effect, effects_of, has_failed, texts_of, unanswered}
 use Rattle.ob_headline.specs.Statements.{statements}
-use Rattle.ob_headline.specs.Words.{Answer}
-use Rattle.ob_headline.specs.declared.ending.Ending.{Ending}
 use Rattle.ob_mean.proofs.FlatSessions.{room_flat}
-use Rattle.ob_mean.proofs.ReplayLemmas.{after_room}
-use Rattle.ob_mean.proofs.VerdictLemmas.{headings-database}
-use Rattle.ob_mean.specs.Batches.{Gathering, gathering_after, settle_all}
-use Rattle.ob_mean.specs.Lawful.{Lawful}
-use Rattle.ob_mean.specs.Refusals.{early_refusal, limits_of}
-use Rattle.ob_mean.specs.Replay.{Broken, How, Alone, CutAfter, With, CutWith, IsCutOff, IsMember, Session, Spelt, after, after_all, head_of, is_full_now, rest_of, seen_now, seen_or_cut, served}
-use Rattle.ob_mean.specs.Settle.{settle}
+use Rattle.ob_mean.specs.Batches.{settle_all}
+use Rattle.ob_mean.specs.Replay.{How, Alone, CutAfter, With, CutWith, IsCutOff, IsMember, head_of, rest_of}
 use Rattle.ob_mean.specs.Step.{Database, accepted_answer, answered, has_own_key, insert_refusal, late_refusal, new_row, room_refusal}
-use Rattle.ob_mean.specs.Verdict.{Draws, Tables, database, is_late, verdict}
+use Rattle.ob_mean.specs.Verdict.{Draws, database, is_late, verdict}
 use Rattle.ob_row.specs.Rows.{Row, has_key}
-use Rattle.ob_script.specs.Script.{script}
-use Rattle.ob_script.specs.Trace.{Served, next, trace}
-use Rattle.ob_sql.specs.Skeleton.{skeleton}
-use Rattle.ob_sql.specs.declared.stmt.Stmt.{Stmt}
 use Rattle.ob_sql.specs.declared.stmt.Stmt.TheVariants.{Create, Insert, Update, Delete, Drop as DropTable, SelectRows as RowsStmt, SelectTotals as TotalsStmt}
-use Rattle.ob_verdict.proofs.PlainSettings.{plain}
-use Rattle.ob_verdict.specs.Outcomes.{outcome_of, refusal_now}
+use Rattle.ob_verdict.specs.Outcomes.{outcome_of}
 use Rattle.ob_verdict.specs.declared.outcome.Outcome.{Outcome}
-use Rattle.ob_verdict.specs.declared.outcome.Outcome.TheVariants.{Created, Inserted, Changed, Deleted, Dropped, Rows, Refused}
+use Rattle.ob_verdict.specs.declared.outcome.Outcome.TheVariants.{Created, Inserted, Changed, Deleted, Dropped, Rows}
 
 -- ---- an answer that the store had failed
 fault_refusal : (r : Refusal) → is_store_fault r ≡ true → r ≡ StoreFault

@@ -1,25 +1,9 @@
 -- What statements go on from is flat.
-use Rattle.std.specs.Prelude.{map, slice_get}
-use Rattle.std.proofs.Common.{◌≡◌, ℕ, zero, suc, false, List, [], ◌∷◌, Option, Some, None, refl, ◌∙◌, ap}
-use Rattle.ob_base.specs.Stored.{headings, headings_of}
-use Rattle.ob_base.specs.declared.config.Config.{Config}
-use Rattle.ob_base.specs.declared.config.Public.{Public}
-use Rattle.ob_base.specs.declared.schema.Heading.{Heading}
-use Rattle.ob_base.specs.declared.schema.Shape.TheVariants.{Flat}
-use Rattle.ob_base.specs.declared.seen.End.{End}
-use Rattle.ob_base.specs.declared.skeleton.Skeleton.{Skeleton}
-use Rattle.ob_headline.specs.Bases.{public_with}
-use Rattle.ob_mean.specs.Flats.{AreFlat}
+use Rattle.ob_headline.proofs.Words.{ap, AreFlat, Closing, Config, End, false, Flat, Heading, headings, headings_of, is_access, KeptRegion, KeySet, List, Listed, map, None, Option, Public, public_with, refl, Skeleton, slice_get, Some, suc, Tables, zero, ℕ, [], ◌∙◌, ◌∷◌, ◌≡◌}
 use Rattle.ob_mean.specs.Lawful.{HoldsLeaf}
-use Rattle.ob_mean.specs.Replay.{is_access}
-use Rattle.ob_mean.specs.Verdict.{Tables}
 use Rattle.ob_reopen.specs.Limits.{IsCatalogue}
 use Rattle.ob_reopen.specs.Reopened.{opened_public}
 use Rattle.ob_reopen.specs.Resting.{AreKept, Rests}
-use Rattle.ob_reopen.specs.declared.closing.Closing.{Closing}
-use Rattle.ob_reopen.specs.declared.listed.Listed.{Listed}
-use Rattle.ob_seal.specs.KeySet.{KeySet}
-use Rattle.ob_store.specs.State.{KeptRegion}
 
 -- each table is flat, by what is public
 abbrev pub IsFlat : Public → Type 0

@@ -1,12 +1,8 @@
 -- Which statements of a flight that was left had ended.
-use Rattle.std.specs.Prelude.{◌<◌, ◌≤◌, take}
-use Rattle.std.specs.List.{All}
-use Rattle.std.proofs.Common.{◌≡◌, ◌+◌, ℕ, zero, suc, List, Some, subst, arith}
+use Rattle.ob_headline.proofs.Words.{All, arith, List, Public, Served, Some, subst, suc, take, zero, ℕ, ◌+◌, ◌<◌, ◌≡◌, ◌≤◌}
 use Rattle.std.proofs.lemmas.List.Elements.{All-cons, All-nil}
-use Rattle.ob_base.specs.declared.config.Public.{Public}
 use Rattle.ob_headline.specs.Flights.{EndedBy, Seat, asked_until, seat_aloft, seats_aloft}
 use Rattle.ob_script.specs.Flights.{boarding, turns_of}
-use Rattle.ob_script.specs.Trace.{Served}
 
 abbrev pub HasEndedBy : Seat → Type 0
 HasEndedBy v = EndedBy v.left v

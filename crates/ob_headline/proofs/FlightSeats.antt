@@ -1,18 +1,9 @@
 -- By what the statements of a flight go, and what is meant of them within some accesses.
-use Rattle.std.specs.Prelude.{◌<◌, slice_get}
-use Rattle.std.proofs.Common.{◌≡◌, ◌+◌, ◌≤◌, ℕ, zero, suc, true, false, List, [], ◌∷◌, length, Option, Some, None, Ok, Err, refl, ◌∙◌, ap, subst, arith}
-use Rattle.ob_base.specs.declared.config.Public.{Public}
-use Rattle.ob_headline.specs.Batches.{after_now, gathered_now}
+use Rattle.ob_headline.proofs.Words.{after, Answer, AnswersMeant, ap, arith, Err, false, gathered_now, Gathering, how_now, is_full_now, length, List, may_fly, None, Ok, Option, Public, refl, seen_now, seen_or_cut, Served, Session, skeleton, slice_get, Some, Spelt, Stmt, subst, suc, true, zero, ℕ, [], ◌+◌, ◌<◌, ◌∙◌, ◌∷◌, ◌≡◌, ◌≤◌}
+use Rattle.ob_headline.specs.Batches.{after_now}
 use Rattle.ob_headline.specs.Disturbed.{MeantUntil}
-use Rattle.ob_headline.specs.Flights.{Seat, at_seat, may_fly, seat_aloft, seats_aloft}
-use Rattle.ob_headline.specs.Meaning.{AnswersMeant}
-use Rattle.ob_headline.specs.Words.{Answer}
-use Rattle.ob_mean.specs.Batches.{Gathering}
-use Rattle.ob_mean.specs.Replay.{Session, Spelt, after, how_now, is_full_now, seen_now, seen_or_cut}
+use Rattle.ob_headline.specs.Flights.{Seat, at_seat, seat_aloft, seats_aloft}
 use Rattle.ob_mean.specs.Replay as Hows
-use Rattle.ob_script.specs.Trace.{Served}
-use Rattle.ob_sql.specs.Skeleton.{skeleton}
-use Rattle.ob_sql.specs.declared.stmt.Stmt.{Stmt}
 
 -- ---- seats
 module _ (p : Public) (m : ℕ) (flown : List Served) (words : ℕ → ℕ) (left : Option ℕ) where

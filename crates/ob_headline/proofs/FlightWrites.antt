@@ -1,42 +1,19 @@
 -- Statements in flight write to regions that they make, or to those of an index, whatever the turns.
-use Rattle.std.specs.Prelude.{⊤, unwrap_or, slice_get, slice_set, take, drop, map, option_map}
-use Rattle.std.specs.List.{All}
-use Rattle.std.proofs.Common.{◌≡◌, ◌⊎◌, ◌+◌, ◌-◌, ◌≤◌, ◌<◌, ◌++◌, inl, inr, Ok, Err, ℕ, zero, suc, Bool, true, false, List, [], ◌∷◌, length, Option, Some, None, refl, sym, ◌∙◌, ap, subst, append_assoc, arith}
-use Rattle.std.proofs.lemmas.Bool.{cases_eq, cases_lt}
-use Rattle.std.proofs.lemmas.List.Elements.{All-head, All-tail}
-use Rattle.ob_base.specs.declared.access.Access.{Access}
-use Rattle.ob_base.specs.declared.access.Access.TheVariants.{Make, Read, Write, Discard, Open}
-use Rattle.ob_base.specs.declared.config.Plan.{Plan}
-use Rattle.ob_base.specs.declared.config.Plan.TheVariants.{Small, Large, Continuous, Hash}
+use Rattle.ob_headline.proofs.Words.{Access, Accesses, AfterCount, All, All-head, Answer, ap, append_assoc, AreEntries, AreSeen, arith, Base, Bool, cases_lt, Continuous, Cut, drop, End, Ending, Err, false, Gathering, gathering_after, get_back, get_front, Hash, Holds, inl, inr, is_access, Joined, KeySet, Large, Lawful, length, List, Make, map, most_of, next, None, Ok, Option, option_map, Plan, Public, refl, script, seats_of, Seen, Served, slice_get, Small, Some, Spelt, Static, Stmt, StoreState, Story, subst, suc, sym, Table, take, trace_of, true, Whole, words_of, Write, zero, ℕ, [], ⊤, ◌++◌, ◌+◌, ◌-◌, ◌<◌, ◌∙◌, ◌∷◌, ◌≡◌, ◌≤◌, ◌⊎◌}
+use Rattle.std.specs.Prelude.{unwrap_or, slice_set}
+use Rattle.std.proofs.lemmas.Bool.{cases_eq}
+use Rattle.std.proofs.lemmas.List.Elements.{All-tail}
 use Rattle.ob_base.specs.declared.config.Planner.TheVariants.{Forced}
-use Rattle.ob_base.specs.declared.config.Public.{Public}
-use Rattle.ob_base.specs.declared.schema.Table.{Table}
-use Rattle.ob_base.specs.declared.seen.End.{End}
-use Rattle.ob_base.specs.declared.seen.End.TheVariants.{Static, Whole, AfterCount, Joined, Cut}
-use Rattle.ob_base.specs.declared.seen.Seen.{Seen}
 use Rattle.ob_headline.proofs.IndexWrites.{next_index}
 use Rattle.ob_headline.proofs.OwnLemmas.{InOrder, in_order, ordered_own}
-use Rattle.ob_headline.specs.Accesses.{Accesses, AreSeen, IsLeft}
-use Rattle.ob_headline.specs.Bases.{Base}
-use Rattle.ob_headline.specs.Flights.{AreEntries, IsEntry, Seat, after_entries, Stand, most_of, seats, seats_aloft, seats_of, served_by, trace_of, words_of}
+use Rattle.ob_headline.specs.Accesses.{IsLeft}
+use Rattle.ob_headline.specs.Flights.{IsEntry, Seat, after_entries, Stand, seats, seats_aloft, served_by}
 use Rattle.ob_headline.specs.Shown.{OfIndex, WritesOwn, Wrote}
-use Rattle.ob_headline.specs.Story.{Story}
-use Rattle.ob_headline.specs.Words.{Answer}
-use Rattle.ob_headline.specs.declared.ending.Ending.{Ending}
-use Rattle.ob_mean.specs.Batches.{Gathering, gathering_after}
-use Rattle.ob_mean.specs.Lawful.{Holds, Lawful}
-use Rattle.ob_mean.specs.Replay.{Spelt, is_access}
 use Rattle.ob_script.proofs.FlightLemmas.{public_turns}
-use Rattle.ob_script.proofs.Eaches.{get_back, get_front}
 use Rattle.ob_script.proofs.ListPlaces.{get_set_other, get_set_same}
 use Rattle.ob_script.proofs.Steady.{steady_of}
 use Rattle.ob_script.specs.FlightLaws.{MayFly, SelectsFromOne}
 use Rattle.ob_script.specs.Flights.{Alone, Entry, Flight, Flying, Together, accesses_in, acted, boarded, boarding, entry_of, flight, flight_accesses, gates_of, gone_on, merge, next_act, next_flight, picked, place_by, region_after, runnable, trace_in, turn, turns, turns_of, words_from}
-use Rattle.ob_script.specs.Script.{script}
-use Rattle.ob_script.specs.Trace.{Served, next}
-use Rattle.ob_seal.specs.KeySet.{KeySet}
-use Rattle.ob_sql.specs.declared.stmt.Stmt.{Stmt}
-use Rattle.ob_store.specs.State.{StoreState}
 use Rattle.ob_mean.specs.Standing.{StandsAs}
 
 -- no second plan comes behind none

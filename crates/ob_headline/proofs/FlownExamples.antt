@@ -1,24 +1,11 @@
 -- How texts are gathered to fly: worked examples.
-use Rattle.std.specs.Prelude.{codes, drop, map}
-use Rattle.std.proofs.Common.{◌≡◌, inl, inr, ℕ, zero, suc, Bool, true, false, List, [], ◌∷◌, Some, None, Ok, Err, refl, arith}
-use Rattle.ob_base.specs.declared.config.Public.{Public}
-use Rattle.ob_base.specs.declared.schema.Shape.TheVariants.{Flat}
-use Rattle.ob_base.specs.declared.schema.Table.{Table}
-use Rattle.ob_base.specs.declared.seen.Seen.{Seen}
-use Rattle.ob_base.specs.declared.seen.End.TheVariants.{Static, Whole, Cut}
+use Rattle.ob_headline.proofs.Words.{arith, Bool, codes, Cut, drop, ended, Err, false, first_course, Flat, inl, inr, Lawful, List, map, meant_entries, None, Ok, Public, refl, Seen, Served, skeleton, Some, start, Static, Stmt, suc, Table, true, Whole, whole_of, zero, ℕ, [], ◌∷◌, ◌≡◌}
 use Rattle.ob_headline.specs.Accesses.{FirstWants, IsLeft, cut_aloft}
-use Rattle.ob_headline.specs.Bases.{start}
-use Rattle.ob_headline.specs.Disturbed.{first_course, meant_entries}
 use Rattle.ob_headline.specs.Failures.{cut_off}
-use Rattle.ob_headline.specs.Flights.{AreGathered, GoesOn, Seat, asked_until, most_in, seat_aloft, seats, seats_aloft, stand_at, whole_of}
+use Rattle.ob_headline.specs.Flights.{AreGathered, GoesOn, Seat, asked_until, most_in, seat_aloft, seats, seats_aloft, stand_at}
 use Rattle.ob_mean.proofs.VerdictLemmas.{count_all}
-use Rattle.ob_mean.specs.Lawful.{Lawful}
 use Rattle.ob_mean.specs.Standing.{StandsAs}
-use Rattle.ob_mean.specs.Verdict.{ended}
 use Rattle.ob_script.specs.Flights.{Alone, Together, drawn, runnable, turn, turns, turns_for}
-use Rattle.ob_script.specs.Trace.{Served}
-use Rattle.ob_sql.specs.Skeleton.{skeleton}
-use Rattle.ob_sql.specs.declared.stmt.Stmt.{Stmt}
 use Rattle.ob_sql.specs.declared.stmt.Stmt.TheVariants.{Drop as DropTable}
 
 -- a SELECT of a table that there isn't, and another statement

@@ -1,34 +1,17 @@
 -- What is asked of a statement by its meaning, also where it meets a full stash.
-use Rattle.std.specs.Prelude.{nat_lt, is_some}
-use Rattle.std.proofs.Common.{◌≡◌, ◌+◌, ◌*◌, ◌≤◌, ℕ, zero, suc, Bool, true, false, if◌then◌else◌, List, [], ◌∷◌, ◌++◌, length, take, drop, Option, Some, None, refl, sym, ◌∙◌, ap, subst, append_assoc, arith}
-use Rattle.std.proofs.lemmas.Bool.Decides.{nat_tests}
-use Rattle.std.proofs.lemmas.List.{length-append, take-append-drop, take-append-le, take_at}
-use Rattle.std.specs.Option.{is_none, option_map, option_map_or}
-use Rattle.ob_base.specs.Accesses.{write_at}
-use Rattle.ob_base.specs.Indexes.{by_shape, height_of, path_blocks}
-use Rattle.ob_base.specs.Lists.{each}
-use Rattle.ob_base.specs.Stored.{Stored, headings, headings_of, stored_at, stored_regions}
-use Rattle.ob_base.specs.declared.access.Access.{Access}
-use Rattle.ob_base.specs.declared.access.Access.TheVariants.{Read}
-use Rattle.ob_base.specs.declared.config.Public.{Public}
-use Rattle.ob_base.specs.declared.schema.Heading.{Heading}
-use Rattle.ob_base.specs.declared.schema.Shape.{Shape}
-use Rattle.ob_base.specs.declared.schema.Shape.TheVariants.{Flat, Indexed}
-use Rattle.ob_base.specs.declared.seen.Seen.{Seen}
-use Rattle.ob_base.specs.declared.skeleton.Skeleton.{Skeleton}
-use Rattle.ob_base.specs.declared.skeleton.Skeleton.TheVariants.{Create as CreateSkeleton, Insert as InsertSkeleton, Update as UpdateSkeleton, Delete as DeleteSkeleton, Drop as DropSkeleton, Rows, Groups}
-use Rattle.ob_base.specs.declared.skeleton.Source.TheVariants.{Table as OneTable, Join}
+use Rattle.ob_headline.proofs.Words.{Access, ap, append_assoc, arith, Bool, by_shape, count_part, drop, each, false, Flat, Heading, headings, headings_of, height_of, if◌then◌else◌, Indexed, insert_part, is_access, is_full_now, is_none, is_some, length, length-append, limits_of, List, nat_lt, nat_tests, None, Option, option_map, option_map_or, path_read, path_write, Public, Read, refl, rewrite_part, script, Seen, seen_now, served_full, Session, Shape, Skeleton, skeleton, Some, Stmt, Stored, stored_at, stored_regions, subst, suc, sym, take, take-append-drop, take-append-le, true, write_at, zero, ℕ, [], ◌*◌, ◌++◌, ◌+◌, ◌∙◌, ◌∷◌, ◌≡◌, ◌≤◌}
+use Rattle.std.proofs.lemmas.List.{take_at}
+use Rattle.ob_base.specs.Indexes.{path_blocks}
+use Rattle.ob_base.specs.declared.skeleton.Skeleton.TheVariants.{Insert as InsertSkeleton, Update as UpdateSkeleton, Delete as DeleteSkeleton, Rows}
+use Rattle.ob_base.specs.declared.skeleton.Source.TheVariants.{Table as OneTable}
 use Rattle.ob_headline.specs.Words.{Begins}
 use Rattle.ob_mean.proofs.VerdictLemmas.{access_is, started}
 use Rattle.ob_mean.specs.Lawful.{capacity_at, height_at}
-use Rattle.ob_mean.specs.Refusals.{is_indexed, limits_of}
-use Rattle.ob_mean.specs.Replay.{Session, cut_at, has_index, held_if, is_access, is_full_now, reads_of, seen_now, served_full}
+use Rattle.ob_mean.specs.Refusals.{is_indexed}
+use Rattle.ob_mean.specs.Replay.{cut_at, has_index, held_if, reads_of}
 use Rattle.ob_mean.specs.Verdict.{Accessed, accessed_now, gone, is_late, leaf_gone, seen_access}
 use Rattle.ob_script.proofs.Lengths.{length-count_part, length-path_reads}
-use Rattle.ob_script.specs.Parts.{count_part, insert_part, path_read, path_write, rewrite_part}
-use Rattle.ob_script.specs.Script.{behind_change, flat_script, index_part_of, mutation_script, script, shape_script, whole_script, with_table}
-use Rattle.ob_sql.specs.Skeleton.{skeleton}
-use Rattle.ob_sql.specs.declared.stmt.Stmt.{Stmt}
+use Rattle.ob_script.specs.Script.{behind_change, flat_script, index_part_of, mutation_script, shape_script, whole_script, with_table}
 use Rattle.ob_store.specs.State.{Lie}
 use Rattle.ob_vault.specs.Tied.{ReadsIn}
 use Rattle.ob_verdict.proofs.AccessedProof.{access_public}

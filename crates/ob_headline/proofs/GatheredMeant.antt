@@ -1,22 +1,12 @@
 -- Texts are gathered to fly by their meaning as they are by the rule.
-use Rattle.std.specs.Prelude.{◌<◌, ◌&&◌, nat_lt, if◌then◌else◌, map}
-use Rattle.std.specs.List.{All}
-use Rattle.std.proofs.Common.{◌≡◌, ◌⊎◌, inl, inr, ◌+◌, ◌≤◌, ◌++◌, ℕ, Bool, true, false, List, [], ◌∷◌, length, None, Ok, Err, refl, sym, ◌∙◌, ap, subst, arith, append_assoc, append-nil, length-append}
-use Rattle.std.proofs.lemmas.Bool.Decides.{nat_tests}
+use Rattle.ob_headline.proofs.Words.{All, All-head, ap, append-nil, append_assoc, arith, Bool, Err, false, first_course, if◌then◌else◌, inl, inr, is_full_now, length, length-append, List, map, may_fly, meant_entries, nat_lt, nat_tests, next, None, Ok, Public, refl, script, Served, served, served_full, Session, Skeleton, skeleton, Spelt, Stmt, subst, sym, true, ℕ, [], ◌&&◌, ◌++◌, ◌+◌, ◌<◌, ◌∙◌, ◌∷◌, ◌≡◌, ◌≤◌, ◌⊎◌}
 use Rattle.std.proofs.lemmas.List.{length-map}
-use Rattle.std.proofs.lemmas.List.Elements.{All-append, All-cons, All-head, All-nil, All-tail}
-use Rattle.ob_base.specs.declared.config.Public.{Public}
-use Rattle.ob_base.specs.declared.skeleton.Skeleton.{Skeleton}
+use Rattle.std.proofs.lemmas.List.Elements.{All-append, All-cons, All-nil, All-tail}
 use Rattle.ob_headline.proofs.SameEntries.{may_by, selects_one, selects_stay}
-use Rattle.ob_headline.specs.Disturbed.{Course, behind_together, course_alone, course_now, course_with, entries_now, entries_with, first_course, flown_meant, gathering, landed, meant_entries, meant_together, now_alone, turns_then}
-use Rattle.ob_headline.specs.Flights.{AreGathered, Seat, gathered_then, may_fly, place_now, seats, seats_aloft}
-use Rattle.ob_mean.specs.Replay.{Session, Spelt, is_full_now, served, served_full}
+use Rattle.ob_headline.specs.Disturbed.{Course, behind_together, course_alone, course_now, course_with, entries_now, entries_with, flown_meant, gathering, landed, meant_together, now_alone, turns_then}
+use Rattle.ob_headline.specs.Flights.{AreGathered, Seat, gathered_then, place_now, seats, seats_aloft}
 use Rattle.ob_mean.specs.Replay as Hows
 use Rattle.ob_script.specs.Flights.{Alone, Entry, flight_accesses, flight_public, words_from}
-use Rattle.ob_script.specs.Script.{script}
-use Rattle.ob_script.specs.Trace.{Served, next}
-use Rattle.ob_sql.specs.Skeleton.{skeleton}
-use Rattle.ob_sql.specs.declared.stmt.Stmt.{Stmt}
 
 -- ---- one place
 -- a flight begins behind none that may go on with it

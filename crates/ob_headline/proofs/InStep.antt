@@ -1,36 +1,20 @@
 -- The headings of a session's tables are those of what is public, statement for statement, while each table is flat.
-use Rattle.std.specs.Prelude.{IsSome, bytes_eq, filter, is_some, not, if◌then◌else◌}
-use Rattle.std.proofs.Common.{◌≡◌, ℕ, Bool, true, false, cond, List, [], ◌∷◌, ◌++◌, map, Option, Some, None, refl, sym, ◌∙◌, ap}
+use Rattle.ob_headline.proofs.Words.{after, ap, AreFlat, Bool, columns_of, early_refusal, End, ended, false, Heading, headings, headings-database, headings_of, if◌then◌else◌, is_some, IsSome, limits_of, List, map, next, None, not, Option, option_or, Public, refl, Refusal, Seen, Session, settle, Skeleton, skeleton, Some, Static, Stmt, Stored, sym, Table, Tables, tables_after, tables_then, true, Whole, ℕ, [], ◌++◌, ◌∙◌, ◌∷◌, ◌≡◌}
+use Rattle.std.specs.Prelude.{bytes_eq, filter}
+use Rattle.std.proofs.Common.{cond}
 use Rattle.std.proofs.lemmas.List.{map_push}
 use Rattle.std.specs.List.{list_any}
-use Rattle.std.specs.Option.{option_or}
 use Rattle.ob_base.specs.Limits.{buffered}
 use Rattle.ob_base.specs.Lists.{has_repeats}
-use Rattle.ob_base.specs.Schemas.{columns_of}
-use Rattle.ob_base.specs.Stored.{AreApart, Stored, changed_at, dropped_at, headings, headings_of}
-use Rattle.ob_base.specs.declared.config.Public.{Public}
-use Rattle.ob_base.specs.declared.refusal.Refusal.{Refusal}
-use Rattle.ob_base.specs.declared.schema.Heading.{Heading}
-use Rattle.ob_base.specs.declared.schema.Table.{Table}
-use Rattle.ob_base.specs.declared.seen.End.{End}
-use Rattle.ob_base.specs.declared.seen.End.TheVariants.{Static, Whole, AfterCount, Joined, Cut}
-use Rattle.ob_base.specs.declared.seen.Seen.{Seen}
-use Rattle.ob_base.specs.declared.skeleton.Skeleton.{Skeleton}
+use Rattle.ob_base.specs.Stored.{AreApart, changed_at, dropped_at}
 use Rattle.ob_mean.proofs.EarlyLemmas.{neither}
 use Rattle.ob_mean.proofs.FlatLemmas.{seen_is, settle_is}
-use Rattle.ob_mean.proofs.VerdictLemmas.{headings-database}
-use Rattle.ob_mean.specs.Flats.{AreFlat}
-use Rattle.ob_mean.specs.Refusals.{early_refusal, limits_of}
 use Rattle.ob_mean.specs.Batches.{inserts_into}
-use Rattle.ob_mean.specs.Replay.{Alone, With, Session, after}
-use Rattle.ob_mean.specs.Settle.{new_held, settle, settled}
+use Rattle.ob_mean.specs.Replay.{Alone, With}
+use Rattle.ob_mean.specs.Settle.{new_held, settled}
 use Rattle.ob_mean.specs.Step.{followed, late_refusal}
-use Rattle.ob_mean.specs.Verdict.{Draws, Held, Tables, database, ended, is_late, last_refusal, refusal, seen, seen_started}
-use Rattle.ob_script.specs.Tables.{tables_after, tables_then}
-use Rattle.ob_script.specs.Trace.{next}
-use Rattle.ob_sql.specs.Skeleton.{skeleton}
+use Rattle.ob_mean.specs.Verdict.{Draws, Held, database, is_late, last_refusal, refusal, seen, seen_started}
 use Rattle.ob_sql.specs.declared.stmt.Literal.{Literal}
-use Rattle.ob_sql.specs.declared.stmt.Stmt.{Stmt}
 use Rattle.ob_sql.specs.declared.stmt.Stmt.TheVariants.{Create, Insert, Update, Delete, Drop as DropTable, SelectRows as RowsStmt, SelectTotals as TotalsStmt}
 use Rattle.ob_verdict.proofs.MovingProof.{is_name, moves, same_name}
 

@@ -1,29 +1,12 @@
 -- Where an access of an index writes, and which regions are an index's behind a statement.
-use Rattle.std.specs.Prelude.{⊤, bytes_eq, filter, not, slice_get}
-use Rattle.std.proofs.Common.{◌≡◌, ◌⊎◌, inl, inr, ◌+◌, ◌*◌, ◌≤◌, ◌++◌, ℕ, zero, suc, Bool, true, false, cond, if◌then◌else◌, List, [], ◌∷◌, Option, Some, None, take, refl, sym, ◌∙◌, ap, subst, arith}
-use Rattle.ob_base.specs.Accesses.{read_at, write_at}
-use Rattle.ob_base.specs.Indexes.{by_shape, height_of}
-use Rattle.ob_base.specs.Lists.{each}
-use Rattle.ob_base.specs.Schemas.{columns_of}
-use Rattle.ob_base.specs.Stored.{Stored, stored_at, stored_regions}
-use Rattle.ob_base.specs.declared.access.Access.{Access}
-use Rattle.ob_base.specs.declared.access.Access.TheVariants.{Make, Read, Write, Discard, Open}
-use Rattle.ob_base.specs.declared.config.Public.{Public}
-use Rattle.ob_base.specs.declared.schema.Shape.{Shape}
-use Rattle.ob_base.specs.declared.schema.Shape.TheVariants.{Flat, Indexed}
-use Rattle.ob_base.specs.declared.schema.Table.{Table}
-use Rattle.ob_base.specs.declared.seen.End.{End}
-use Rattle.ob_base.specs.declared.seen.End.TheVariants.{Static, Whole, AfterCount, Joined, Cut}
-use Rattle.ob_base.specs.declared.seen.Seen.{Seen}
-use Rattle.ob_base.specs.declared.skeleton.Skeleton.{Skeleton}
+use Rattle.ob_headline.proofs.Words.{Access, AfterCount, ap, arith, Bool, by_shape, columns_of, count_part, Cut, Discard, each, End, false, Flat, height_of, if◌then◌else◌, Indexed, inl, inr, is_access, Joined, List, Make, next, None, not, Open, Option, path_read, path_write, Public, Read, read_at, refl, script, Seen, Shape, Skeleton, slice_get, Some, Static, Stored, stored_at, stored_regions, subst, suc, sym, Table, tables_after, tables_then, take, true, Whole, Write, write_at, zero, ℕ, [], ⊤, ◌*◌, ◌++◌, ◌+◌, ◌∙◌, ◌∷◌, ◌≡◌, ◌≤◌, ◌⊎◌}
+use Rattle.std.specs.Prelude.{bytes_eq, filter}
+use Rattle.std.proofs.Common.{cond}
 use Rattle.ob_base.specs.declared.skeleton.Skeleton.TheVariants.{Create, Insert, Update, Delete, Drop as DropTable, Rows, Groups}
 use Rattle.ob_headline.proofs.FullLemmas.{on_index}
 use Rattle.ob_headline.specs.Shown.{IsOfIndex, OfIndex, WritesIndexes}
-use Rattle.ob_mean.specs.Replay.{is_access}
-use Rattle.ob_script.specs.Parts.{count_part, path_read, path_write}
-use Rattle.ob_script.specs.Script.{index_part_of, script, until_end, whole_script}
-use Rattle.ob_script.specs.Tables.{moved, moved_to, tables_after, tables_then}
-use Rattle.ob_script.specs.Trace.{next}
+use Rattle.ob_script.specs.Script.{index_part_of, until_end, whole_script}
+use Rattle.ob_script.specs.Tables.{moved, moved_to}
 
 -- ---- accesses of which each write goes to such a region
 module _ (P : ℕ → Type 0) where

@@ -1,46 +1,18 @@
 -- What a run asks of which no text was answered that the store failed, however it ended.
-use Rattle.std.specs.Prelude.{◌&&◌, is_some}
-use Rattle.std.specs.Option.{is_none}
-use Rattle.std.proofs.Common.{◌≡◌, ◌+◌, ◌≤◌, ◌++◌, ℕ, Bool, true, false, Ok, Err, List, [], ◌∷◌, length, take, drop, Option, Some, None, refl, sym, ◌∙◌, ap, subst, append-nil, append_assoc, arith}
-use Rattle.std.proofs.lemmas.List.{take-append-drop}
-use Rattle.clap.specs.Words.{App, Text}
-use Rattle.ob_base.specs.Accesses.{discard_at}
-use Rattle.ob_base.specs.Indexes.{by_shape}
-use Rattle.ob_base.specs.Limits.{buffered_blocks}
-use Rattle.ob_base.specs.Stored.{Stored}
-use Rattle.ob_base.specs.declared.access.Access.{Access}
-use Rattle.ob_base.specs.declared.config.Public.{Public}
-use Rattle.ob_base.specs.declared.refusal.Refusal.{Refusal}
-use Rattle.ob_base.specs.declared.schema.Heading.{Heading}
-use Rattle.ob_base.specs.declared.seen.End.{End}
-use Rattle.ob_base.specs.declared.seen.End.TheVariants.{Static, Whole, AfterCount, Joined, Cut}
-use Rattle.ob_base.specs.declared.seen.Seen.{Seen}
-use Rattle.ob_base.specs.declared.skeleton.Skeleton.{Skeleton}
+use Rattle.ob_headline.proofs.Words.{Access, Answer, ap, append-nil, append_assoc, arith, Base, Bool, buffered_blocks, by_shape, count_part, Cut, discard_at, drop, End, Err, failures, false, Gathering, goes_into, Heading, Headline, is_cut, is_joined, is_none, is_some, join_part, Joins, KeySet, Lawful, length, List, next, None, Ok, Option, Outside, Public, refl, Refusal, refusal_now, Report, script, Seen, Skeleton, skeleton, Some, Spelt, Stmt, Stored, subst, sym, take, take-append-drop, Text, trace, true, Whole, ℕ, [], ◌&&◌, ◌++◌, ◌+◌, ◌∙◌, ◌∷◌, ◌≡◌, ◌≤◌}
+use Rattle.clap.specs.Words.{App}
 use Rattle.ob_base.specs.declared.skeleton.Skeleton.TheVariants as K
 use Rattle.ob_base.specs.declared.skeleton.Source.TheVariants.{Table as OneTable, Join}
-use Rattle.ob_verdict.specs.Outcomes.{refusal_now}
 use Rattle.ob_headline.proofs.BatchLemmas.{cut_fails}
 use Rattle.ob_headline.proofs.FlatLemmas.{no_leaf}
 use Rattle.ob_headline.proofs.RerunLemmas.{GathersIf, gathered_if, gathers_none, gathers_on, holds_none, none_before, not_cut, shows_plainly}
-use Rattle.ob_headline.specs.Bases.{Base}
-use Rattle.ob_headline.specs.Batches.{Joins}
-use Rattle.ob_headline.specs.Failures.{failures}
-use Rattle.ob_headline.specs.Headline.{Headline}
 use Rattle.ob_headline.specs.Reruns.{ArePlain, AsksByKinds, IsPlain, Stated, gathered_behind, plainly, seen_plainly, shown_plainly, stated, stated_in}
 use Rattle.ob_headline.specs.Settings.{IsTaken, IsTakenSaved, MeddleParses}
-use Rattle.ob_headline.specs.Words.{Answer, Begins, Outside}
+use Rattle.ob_headline.specs.Words.{Begins}
 use Rattle.ob_headline.proofs.ServedAlone.{SeenAlone}
 use Rattle.ob_headline.proofs.AloneRuns.{few_spelt, headline_alone}
-use Rattle.ob_headline.specs.declared.ending.Report.{Report}
-use Rattle.ob_mean.specs.Batches.{Gathering, goes_into, is_cut, is_joined}
-use Rattle.ob_mean.specs.Lawful.{Lawful}
-use Rattle.ob_mean.specs.Replay.{Spelt}
-use Rattle.ob_script.specs.Parts.{count_part, join_part}
-use Rattle.ob_script.specs.Script.{script, whole_script, behind_count, with_table, extent_of, blocks_of, index_part_of, joined_extent, rows_width}
-use Rattle.ob_script.specs.Trace.{Served as Entry, next, trace}
-use Rattle.ob_seal.specs.KeySet.{KeySet}
-use Rattle.ob_sql.specs.Skeleton.{skeleton}
-use Rattle.ob_sql.specs.declared.stmt.Stmt.{Stmt}
+use Rattle.ob_script.specs.Script.{whole_script, behind_count, with_table, extent_of, blocks_of, index_part_of, joined_extent, rows_width}
+use Rattle.ob_script.specs.Trace.{Served as Entry}
 
 -- nothing but how it ended
 abbrev ended_so : End → Seen

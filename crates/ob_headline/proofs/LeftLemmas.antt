@@ -1,27 +1,13 @@
 -- What lies in a store that tells, once a run ended and behind each of its statements, is sealed under the number of a write
 -- of the run that no other has.
-use Rattle.std.specs.Prelude.{IsTrue, slice_get}
-use Rattle.std.proofs.Common.{◌≡◌, ◌+◌, ◌-◌, ◌<◌, ◌++◌, inl, inr, ℕ, Bool, true, List, Some, length, take, refl, sym, ◌∙◌, ap, arith}
-use Rattle.std.proofs.lemmas.List.{take-append-le}
+use Rattle.ob_headline.proofs.Words.{Access, ap, arith, asked_by, at_of, Base, Bool, get_front, inl, inr, IsSealed, IsTrue, keys_by, KeySet, length, List, Public, refl, slice_get, Some, SomeRun, Start, StoreState, sym, take, take-append-le, true, words_of, Write, writes, ℕ, ◌++◌, ◌+◌, ◌-◌, ◌<◌, ◌∙◌, ◌≡◌}
 use Rattle.std.proofs.lemmas.Option.{slice_get_within}
-use Rattle.ob_base.specs.Accesses.{writes}
 use Rattle.ob_base.specs.Counts.{Rises}
-use Rattle.ob_base.specs.declared.access.Access.{Access}
-use Rattle.ob_base.specs.declared.access.Access.TheVariants.{Write}
-use Rattle.ob_base.specs.declared.config.Public.{Public}
 use Rattle.ob_headline.proofs.AloneLemmas.{At, alone, no_later, position_of}
 use Rattle.ob_headline.proofs.FlightWrites.{run_ordered, written_by}
-use Rattle.ob_headline.specs.Flights.{words_of}
-use Rattle.ob_headline.specs.Bases.{Base}
-use Rattle.ob_headline.specs.Reruns.{SomeRun, asked_by, keys_by}
 use Rattle.ob_headline.specs.Shown.{AreNumberedAlike, AskedTheSame, IsBegun, IsBetween, IsShown, OfIndex, ShowNumbersAlike, Shows, ShowsBehind, ShowsBetween, ShowsSealed, Wrote, asked_behind, number_at, public_behind}
-use Rattle.ob_headline.specs.Sealing.{IsSealed, IsSealedAt, PassesHere}
-use Rattle.ob_script.proofs.Eaches.{get_front}
-use Rattle.ob_seal.specs.KeySet.{KeySet}
+use Rattle.ob_headline.specs.Sealing.{IsSealedAt, PassesHere}
 use Rattle.ob_seal.specs.Sealed.{sealed}
-use Rattle.ob_store.specs.State.{StoreState}
-use Rattle.ob_vault.specs.State.{Start}
-use Rattle.ob_vault.specs.Tied.{at_of}
 
 -- ---- one block
 module _ (good : List ℕ → Bool) (keys : KeySet) (start : Start) (old new : StoreState) (region place : ℕ) (block : List ℕ) (fresh : start.given region place ≡ 0) (is : IsSealedAt good keys start old new region place block) where

@@ -43,3 +43,4 @@ pub mod BeginsAlike
 pub mod SavedAsOne
 pub mod SavedNumbers
 pub mod SaltedNumbers
+mod Words

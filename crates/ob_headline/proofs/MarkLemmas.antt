@@ -1,34 +1,12 @@
 -- The mark that is held once a run ended, by what was done with it.
-use Rattle.std.specs.Prelude.{MatchBool, if◌then◌else◌, ◌⊎◌}
-use Rattle.std.proofs.Common.{◌≡◌, ℕ, Bool, true, false, List, Option, Some, Result, Ok, Err, inl, inr, sym, ◌∙◌, ap, subst}
-use Rattle.clap.specs.Words.{Text}
-use Rattle.ob_base.specs.declared.access.Access.{Access}
-use Rattle.ob_base.specs.declared.config.Config.{Config}
-use Rattle.ob_base.specs.declared.fault.Failed.{Failed}
-use Rattle.ob_reopen.specs.declared.mark.Mark.{Mark}
-use Rattle.ob_reopen.specs.declared.mark.Mark.TheVariants.{InUse}
-use Rattle.ob_reopen.specs.Closed.{IsClosedAs, StaysInUse, is_used_up}
+use Rattle.ob_headline.proofs.Words.{Access, Answer, ap, BadKey, Base, Bool, CloseErr, Closing, Config, Ending, EndsBehind, Err, Failed, false, FlightSettings, flying, if◌then◌else◌, inl, inr, InUse, is_used_up, KeeperFault, KeeperState, KeptEnding, keys_of, KeySet, List, Mark, mark_made, mark_of, MatchBool, Ok, Option, Outside, Plain, Ran, Report, Result, Some, StoreState, Story, subst, sym, Text, true, Usage, ℕ, ◌∙◌, ◌≡◌, ◌⊎◌}
+use Rattle.ob_reopen.specs.Closed.{IsClosedAs, StaysInUse}
 use Rattle.ob_headline.proofs.StopLemmas.{closing_stops}
-use Rattle.ob_headline.specs.Bases.{Base, flying}
 use Rattle.ob_headline.specs.Flights.{public_after}
 use Rattle.ob_headline.specs.Keeping.{EndsWith, NotBegun, Writes, closing_behind}
-use Rattle.ob_headline.specs.KeptHeadline.{EndsBehind, SessionKept, Unbegun, Unkeyed}
-use Rattle.ob_headline.specs.KeptMarks.{HeldAfter, HeldBehind, KeptRun, mark_made}
-use Rattle.ob_headline.specs.Words.{Answer, Outside}
-use Rattle.ob_headline.specs.declared.ending.Ending.{Ending}
-use Rattle.ob_headline.specs.declared.ending.Ending.TheVariants.{Usage, BadKey, Ran}
-use Rattle.ob_headline.specs.declared.ending.KeptEnding.{KeptEnding}
-use Rattle.ob_headline.specs.declared.ending.KeptEnding.TheVariants.{Plain, KeeperFault}
-use Rattle.ob_headline.specs.declared.ending.Report.{Report}
-use Rattle.ob_reopen.specs.Closings.{mark_of}
-use Rattle.ob_reopen.specs.Keepers.{KeeperState, SetsMark}
-use Rattle.ob_reopen.specs.declared.closing.Closing.{Closing}
-use Rattle.ob_reopen.specs.declared.fault.CloseErr.{CloseErr}
-use Rattle.ob_seal.specs.KeySet.{KeySet}
-use Rattle.ob_seal.specs.Sealed.{keys_of}
-use Rattle.ob_store.specs.State.{StoreState}
-use Rattle.ob_headline.specs.Story.{Story}
-use Rattle.ob_headline.specs.declared.flight.FlightSettings.{FlightSettings}
+use Rattle.ob_headline.specs.KeptHeadline.{SessionKept, Unbegun, Unkeyed}
+use Rattle.ob_headline.specs.KeptMarks.{HeldAfter, HeldBehind, KeptRun}
+use Rattle.ob_reopen.specs.Keepers.{SetsMark}
 
 -- ---- no statement was served
 kept_held : (config : Config) (keys : KeySet) (ending : KeptEnding) (s t : StoreState) (f0 f1 : ℕ) (k0 k1 : KeeperState) (held : Mark) → k0.held ≡ Some held → NotBegun config keys ending s t f0 f1 k0 k1

@@ -1,35 +1,13 @@
 -- The numbers of writes go on over all runs of one keeper.
-use Rattle.std.specs.Prelude.{MatchBool, ⊤, if◌then◌else◌}
-use Rattle.std.proofs.Common.{◌≡◌, ◌≤◌, ◌+◌, ◌++◌, ℕ, zero, suc, Bool, true, false, List, [], ◌∷◌, Option, Some, None, Result, Ok, Err, inl, inr, refl, sym, ◌∙◌, ap, subst, arith}
-use Rattle.ob_base.specs.Accesses.{drop_script, write_at, writes}
-use Rattle.ob_base.specs.Lists.{each}
-use Rattle.ob_base.specs.declared.access.Access.{Access}
+use Rattle.ob_headline.proofs.Words.{Access, Answer, ap, arith, BadKey, Base, BeginsFrom, Bool, Closed, CloseErr, Closing, Config, each, Ending, EndsBehind, Err, false, FlightSettings, flying, Fresh, if◌then◌else◌, inl, inr, InUse, is_used_up, KeeperState, KeptEnding, keys_of, KeySet, List, Mark, mark_made, mark_of, MatchBool, None, Ok, Option, Outside, Ran, refl, Report, Result, RunKept, Some, StoreState, Story, subst, suc, sym, true, Usage, write_at, writes, zero, ℕ, [], ⊤, ◌++◌, ◌+◌, ◌∙◌, ◌∷◌, ◌≡◌, ◌≤◌}
+use Rattle.ob_base.specs.Accesses.{drop_script}
 use Rattle.ob_base.specs.declared.access.Access.TheVariants as A
-use Rattle.ob_base.specs.declared.config.Config.{Config}
-use Rattle.ob_reopen.specs.declared.mark.Mark.{Mark}
-use Rattle.ob_reopen.specs.declared.mark.Mark.TheVariants.{Fresh, InUse, Closed, Begun, Saved}
-use Rattle.ob_reopen.specs.Closed.{IsClosedAs, StaysInUse, is_used_up}
+use Rattle.ob_reopen.specs.Closed.{IsClosedAs, StaysInUse}
 use Rattle.ob_headline.proofs.MarkLemmas.{held_after}
-use Rattle.ob_headline.specs.Bases.{Base, flying}
 use Rattle.ob_headline.specs.Flights.{public_after}
-use Rattle.ob_headline.specs.Keeping.{BeginsFrom, Writes, closing_behind, last_script}
-use Rattle.ob_headline.specs.KeptHeadline.{EndsBehind, RunKept}
-use Rattle.ob_headline.specs.KeptMarks.{mark_made}
+use Rattle.ob_headline.specs.Keeping.{Writes, closing_behind, last_script}
 use Rattle.ob_headline.specs.KeptRuns.{AnyRun, AreChained, GoesOnFrom, NumberOn, numbered_in}
-use Rattle.ob_headline.specs.Words.{Answer, Outside}
-use Rattle.ob_headline.specs.declared.ending.Ending.{Ending}
-use Rattle.ob_headline.specs.declared.ending.Ending.TheVariants.{Usage, BadKey, Ran}
-use Rattle.ob_headline.specs.declared.ending.KeptEnding.{KeptEnding}
-use Rattle.ob_headline.specs.declared.ending.Report.{Report}
-use Rattle.ob_reopen.specs.Closings.{mark_of, write_script}
-use Rattle.ob_reopen.specs.Keepers.{KeeperState}
-use Rattle.ob_reopen.specs.declared.closing.Closing.{Closing}
-use Rattle.ob_reopen.specs.declared.fault.CloseErr.{CloseErr}
-use Rattle.ob_seal.specs.KeySet.{KeySet}
-use Rattle.ob_seal.specs.Sealed.{keys_of}
-use Rattle.ob_store.specs.State.{StoreState}
-use Rattle.ob_headline.specs.Story.{Story}
-use Rattle.ob_headline.specs.declared.flight.FlightSettings.{FlightSettings}
+use Rattle.ob_reopen.specs.Closings.{write_script}
 
 -- ---- how many writes a closing takes
 writes_append : (xs ys : List Access) → writes (xs ++ ys) ≡ writes xs + writes ys

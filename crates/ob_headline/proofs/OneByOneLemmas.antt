@@ -1,27 +1,16 @@
 -- A run of which no statement flies serves them one by one.
-use Rattle.std.specs.Prelude.{◌-◌, max, min}
-use Rattle.std.specs.Option.{option_map_or}
-use Rattle.std.proofs.Common.{◌≡◌, ◌+◌, ◌≤◌, ℕ, false, List, [], ◌∷◌, length, Option, refl, ◌∙◌, ap, subst, arith}
-use Rattle.ob_base.specs.declared.access.Access.{Access}
-use Rattle.ob_base.specs.declared.config.Public.{Public}
+use Rattle.ob_headline.proofs.Words.{Access, after_line, ap, arith, batch_most, false, FliesNone, keys_by, length, List, most_of, next, Option, option_map_or, Outputs, Public, refl, script, seats_of, seen_by, Served, session_at, SomeRun, subst, texts_in, trace, trace_alone, trace_of, whole_of, words_of, ℕ, [], ◌+◌, ◌-◌, ◌∙◌, ◌∷◌, ◌≡◌, ◌≤◌}
+use Rattle.std.specs.Prelude.{max, min}
 use Rattle.ob_headline.proofs.AloneRuns.{few_spelt, run_alone}
 use Rattle.ob_headline.proofs.PromptLemmas.{none_may}
 use Rattle.ob_headline.proofs.SameAlone.{same_trace, whole_alone}
-use Rattle.ob_headline.specs.Bases.{session_at}
 use Rattle.ob_headline.specs.Batches.{AnsweredBut}
-use Rattle.ob_headline.specs.Flights.{FliesNone, Seat, most_of, public_whole, seat_alone, seats, seats_alone, seats_of, trace_of, whole_of, words_of}
-use Rattle.ob_headline.specs.KeyLine.{after_line}
+use Rattle.ob_headline.specs.Flights.{Seat, public_whole, seat_alone, seats, seats_alone}
 use Rattle.ob_headline.specs.OneByOne.{OneByOne}
-use Rattle.ob_headline.specs.Reruns.{SomeRun, keys_by, seats_by, seen_by}
-use Rattle.ob_headline.specs.Texts.{texts_in}
+use Rattle.ob_headline.specs.Reruns.{seats_by}
 use Rattle.ob_headline.specs.Tracing.{traced}
 use Rattle.ob_headline.specs.Words.{Begins, SinksRose, Took, before_read}
-use Rattle.ob_mean.specs.Batches.{batch_most}
-use Rattle.ob_print.specs.Cuts.{Outputs}
-use Rattle.ob_script.proofs.FlightLemmas.{trace_alone}
 use Rattle.ob_script.specs.Flights.{Entry, all_alone, drawn}
-use Rattle.ob_script.specs.Script.{script}
-use Rattle.ob_script.specs.Trace.{Served, next, trace}
 
 -- whatever the words
 any_words : (words others : ℕ → ℕ) (t n : ℕ) (p : Public) (m : ℕ) (xs : List Served) → seats words t p m (all_alone xs) ≡ seats others n p m (all_alone xs)

@@ -1,46 +1,24 @@
 -- Each statement that accesses no index writes to those regions alone that it makes.
-use Rattle.std.specs.Prelude.{⊤, slice_get}
-use Rattle.std.proofs.Common.{◌≡◌, ◌+◌, ◌<◌, ◌-◌, ◌*◌, ◌/◌, ◌%◌, ◌≤◌, ◌++◌, ℕ, zero, suc, min, Bool, true, false, if◌then◌else◌, List, [], ◌∷◌, length, Option, Some, None, Ok, Err, take, refl, sym, ◌∙◌, subst, append_assoc, append-nil, arith}
+use Rattle.ob_headline.proofs.Words.{Access, AfterCount, Answer, append-nil, append_assoc, arith, Bool, buffered_blocks, by_shape, columns_of, Continuous, count_part, Cut, Discard, discard_at, each, End, Err, false, Flat, FliesNone, Gathering, gathering_after, Hash, height_of, Holds, if◌then◌else◌, Indexed, insert_part, is_access, join_part, Joined, Large, Lawful, length, List, Make, next, None, Ok, Open, Option, option_map_or, Plan, Public, Read, read_at, refl, rewrite_part, script, Seen, seen_by, Shape, Skeleton, slice_get, Small, Some, SomeRun, Spelt, Static, Stmt, Stored, stored_at, stored_regions, subst, suc, sym, tables_after, take, true, Whole, Write, write_at, zero, ℕ, [], ⊤, ◌*◌, ◌++◌, ◌+◌, ◌-◌, ◌<◌, ◌∙◌, ◌∷◌, ◌≡◌, ◌≤◌}
+use Rattle.std.proofs.Common.{◌/◌, ◌%◌, min}
 use Rattle.std.specs.Int.{div_ceil}
-use Rattle.std.specs.Option.{option_map_or}
-use Rattle.ob_base.specs.declared.schema.Shape.{Shape}
-use Rattle.ob_base.specs.declared.schema.Shape.TheVariants.{Flat, Indexed}
-use Rattle.ob_base.specs.Indexes.{by_shape, height_of, tree_blocks}
-use Rattle.ob_base.specs.Accesses.{discard_at, drop_script, make_at, makes, read_at, write_at}
+use Rattle.ob_base.specs.Indexes.{tree_blocks}
+use Rattle.ob_base.specs.Accesses.{drop_script, make_at, makes}
 use Rattle.ob_base.specs.Joins.{joined_slots}
-use Rattle.ob_base.specs.Limits.{buffered_blocks}
-use Rattle.ob_base.specs.Lists.{each}
 use Rattle.ob_base.specs.Numbers.{blocks_for, first_bucket, second_bucket}
 use Rattle.ob_base.specs.Plans.{choose_padded, padded_rows}
-use Rattle.ob_base.specs.Schemas.{width, columns_of}
-use Rattle.ob_base.specs.Stored.{Stored, stored_at, stored_regions}
-use Rattle.ob_base.specs.declared.access.Access.{Access}
-use Rattle.ob_base.specs.declared.access.Access.TheVariants.{Make, Read, Write, Discard, Open}
-use Rattle.ob_base.specs.declared.config.Plan.{Plan}
-use Rattle.ob_base.specs.declared.config.Plan.TheVariants.{Small, Large, Continuous, Hash}
-use Rattle.ob_base.specs.declared.config.Public.{Public}
-use Rattle.ob_base.specs.declared.seen.End.{End}
-use Rattle.ob_base.specs.declared.seen.End.TheVariants.{Static, Whole, AfterCount, Joined, Cut}
-use Rattle.ob_base.specs.declared.seen.Seen.{Seen}
-use Rattle.ob_base.specs.declared.skeleton.Skeleton.{Skeleton}
+use Rattle.ob_base.specs.Schemas.{width}
 use Rattle.ob_base.specs.declared.skeleton.Skeleton.TheVariants.{Create, Insert, Update, Delete, Drop as DropTable, Rows, Groups}
 use Rattle.ob_base.specs.declared.skeleton.Source.TheVariants.{Table as OneTable, Join}
 use Rattle.ob_headline.proofs.IndexWrites.{writes_indexes}
-use Rattle.ob_headline.specs.Reruns.{SomeRun, seen_by}
 use Rattle.ob_headline.specs.Shown.{WriteOwn, WritesOwn, WritesWithin}
-use Rattle.ob_headline.specs.Words.{Answer}
 use Rattle.ob_headline.proofs.ServedAlone.{SeenAlone}
-use Rattle.ob_headline.specs.Flights.{FliesNone}
 use Rattle.ob_headline.proofs.AloneRuns.{run_alone}
-use Rattle.ob_mean.specs.Batches.{Gathering, gathering_after}
-use Rattle.ob_mean.specs.Lawful.{Holds, Lawful}
 use Rattle.ob_mean.specs.Refusals.{is_indexed}
-use Rattle.ob_mean.specs.Replay.{Spelt, has_index, is_access}
-use Rattle.ob_script.specs.Parts.{bucket_part, continuous_block, continuous_part, copy_at, copy_part, count_part, create_part, emission_part, hash_block, hash_part, hash_slot, insert_part, join_chunk, join_part, large_part, pair_at, read_from, rewrite_part, slots_in, small_part, small_pass, write_from}
-use Rattle.ob_script.specs.Script.{after_count, behind_change, behind_count, blocks_of, dropped_script, extent_of, flat_script, index_part_of, join_script, made_by, mutation_script, plan_part, result_blocks, result_part, rows_width, save_part, script, select_part, shape_script, until_end, whole_script, with_table}
-use Rattle.ob_script.specs.Tables.{tables_after}
-use Rattle.ob_script.specs.Trace.{Served as Entry, next}
-use Rattle.ob_sql.specs.declared.stmt.Stmt.{Stmt}
+use Rattle.ob_mean.specs.Replay.{has_index}
+use Rattle.ob_script.specs.Parts.{bucket_part, continuous_block, continuous_part, copy_at, copy_part, create_part, emission_part, hash_block, hash_part, hash_slot, join_chunk, large_part, pair_at, read_from, slots_in, small_part, small_pass, write_from}
+use Rattle.ob_script.specs.Script.{after_count, behind_change, behind_count, blocks_of, dropped_script, extent_of, flat_script, index_part_of, join_script, made_by, mutation_script, plan_part, result_blocks, result_part, rows_width, save_part, select_part, shape_script, until_end, whole_script, with_table}
+use Rattle.ob_script.specs.Trace.{Served as Entry}
 use Rattle.ob_verdict.proofs.LawfulProof.{region_index}
 
 -- no region is made, and each write goes to one from the first number on and below the second

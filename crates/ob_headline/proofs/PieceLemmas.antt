@@ -1,9 +1,7 @@
 -- The texts of a session are the pieces that the cutting finds.
-use Rattle.std.specs.Prelude.{◌&&◌, ◌==◌, ⊤, if◌then◌else◌}
-use Rattle.std.proofs.Common.{◌≡◌, ℕ, suc, ◌+◌, ◌-◌, Bool, true, false, List, [], ◌∷◌, ◌++◌, length, take, drop, refl, sym, ◌∙◌, ap, subst, append-nil, append_assoc, arith}
+use Rattle.ob_headline.proofs.Words.{ap, append-nil, append_assoc, arith, Bool, drop, false, if◌then◌else◌, length, length-append, List, nat_tests, refl, subst, suc, sym, take, true, ℕ, [], ⊤, ◌&&◌, ◌++◌, ◌+◌, ◌-◌, ◌==◌, ◌∙◌, ◌∷◌, ◌≡◌}
 use Rattle.std.proofs.Math.Seq.{drop-append-add, take-append-add}
-use Rattle.std.proofs.lemmas.Bool.Decides.{nat_tests}
-use Rattle.std.proofs.lemmas.List.{drop-drop, length-append}
+use Rattle.std.proofs.lemmas.List.{drop-drop}
 use Rattle.std.proofs.lemmas.List.Sums.{fold-append}
 use Rattle.ob_headline.proofs.TextLemmas.{rest_of-over}
 use Rattle.ob_headline.specs.Pieces.{BeginsWith}

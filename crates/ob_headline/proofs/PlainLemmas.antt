@@ -1,42 +1,26 @@
 -- A run that nothing hinders answers as the plain machine does.
-use Rattle.std.specs.Prelude.{if◌then◌else◌}
-use Rattle.std.proofs.Common.{◌≡◌, ◌+◌, ◌≤◌, ◌++◌, inl, inr, ℕ, Bool, true, false, Ok, Err, List, [], ◌∷◌, length, Option, Some, None, refl, sym, ◌∙◌, ap, subst, append-nil, arith}
+use Rattle.ob_headline.proofs.Words.{Access, after, after_line, Answer, AnswersIn, AnswersMeant, ap, append-nil, arith, Bool, Broken, drawing, Ending, Err, failures, false, FliesNone, FromEach, gathered_now, Gathering, gathering_after, how_now, if◌then◌else◌, inl, inr, keys_by, length, List, next, None, Ok, Opened, Option, outcome_failures, Outputs, Public, Ran, refl, script, Seen, seen_by, seen_or_cut, served, Session, session_at, Some, SomeRun, Spelt, status_of, Stmt, subst, sym, texts_in, trace, true, ℕ, [], ◌++◌, ◌+◌, ◌∙◌, ◌∷◌, ◌≡◌, ◌≤◌}
 use Rattle.std.specs.Io.KnownBytes.{Appends, Consumes, IsAtEnd}
-use Rattle.ob_base.specs.declared.access.Access.{Access}
-use Rattle.ob_base.specs.declared.config.Public.{Public}
-use Rattle.ob_base.specs.declared.seen.Seen.{Seen}
-use Rattle.ob_base.specs.declared.refusal.Stop.TheVariants.{Tampered, SourceFault, SinkFault, NoMemory, InputLimit, StoreFault, StashFull, KeeperFault}
+use Rattle.ob_base.specs.declared.refusal.Stop.TheVariants.{Tampered, NoMemory, StoreFault, StashFull, KeeperFault}
 use Rattle.ob_headline.proofs.AloneRuns.{meant_alone, run_alone}
 use Rattle.ob_headline.proofs.BatchLemmas.{IsUncut, how_is}
 use Rattle.ob_headline.proofs.RerunLemmas.{answered_all, failure_is}
-use Rattle.ob_headline.proofs.ServedAlone.{SeenAlone}
+use Rattle.ob_headline.proofs.ServedAlone.{SeenAlone, AnswersAlone}
 use Rattle.ob_headline.specs.Accesses.{StopsWithin}
-use Rattle.ob_headline.specs.Bases.{FromEach, HoldsFrom, Opened, drawing, session_at}
-use Rattle.ob_headline.specs.Batches.{gathered_now}
-use Rattle.ob_headline.specs.Endings.{last_line, status_of}
-use Rattle.ob_headline.specs.Failures.{FailsBeside, failures, outcome_failures}
-use Rattle.ob_headline.specs.Flights.{FliesNone}
+use Rattle.ob_headline.specs.Bases.{HoldsFrom}
+use Rattle.ob_headline.specs.Endings.{last_line}
+use Rattle.ob_headline.specs.Failures.{FailsBeside}
 use Rattle.ob_headline.specs.FullStash.{ReadsFullStash}
-use Rattle.ob_headline.specs.KeyLine.{after_line}
 use Rattle.ob_headline.specs.Plainly.{AnsweredPlainly, IsUnhindered, RunsPlainly}
-use Rattle.ob_headline.specs.Reruns.{SomeRun, TakesWords, keys_by, seen_by}
+use Rattle.ob_headline.specs.Reruns.{TakesWords}
 use Rattle.ob_headline.specs.Settings.{limit_of}
-use Rattle.ob_headline.specs.Texts.{texts_in}
 use Rattle.ob_headline.specs.Tracing.{traced}
-use Rattle.ob_headline.specs.Words.{Answer, IsHonest, printed}
-use Rattle.ob_headline.proofs.ServedAlone.{AnswersAlone}
-use Rattle.ob_headline.specs.Meaning.{AnswersIn, AnswersMeant}
+use Rattle.ob_headline.specs.Words.{IsHonest, printed}
 use Rattle.ob_headline.specs.Answers.{IsUndeceived}
 use Rattle.ob_headline.specs.Status.{Because, IsCompleted, StoreFails}
-use Rattle.ob_headline.specs.declared.ending.Ending.{Ending}
-use Rattle.ob_headline.specs.declared.ending.Ending.TheVariants.{Usage, BadKey, Ran}
 use Rattle.ob_mean.proofs.ReplayLemmas.{served_room}
-use Rattle.ob_mean.specs.Batches.{Gathering, gathering_after}
-use Rattle.ob_mean.specs.Replay.{Broken, How, Alone, CutAfter, With, CutWith, Session, Spelt, after, all_served, head_of, how_now, hows, rest_of, seen_or_cut, served}
-use Rattle.ob_print.specs.Cuts.{Outputs}
-use Rattle.ob_script.specs.Script.{script}
-use Rattle.ob_script.specs.Trace.{Served as Entry, next, trace}
-use Rattle.ob_sql.specs.declared.stmt.Stmt.{Stmt}
+use Rattle.ob_mean.specs.Replay.{How, Alone, CutAfter, With, CutWith, all_served, head_of, hows, rest_of}
+use Rattle.ob_script.specs.Trace.{Served as Entry}
 
 -- ---- its answers
 -- a text that isn't answered that the store failed is answered as it is meant

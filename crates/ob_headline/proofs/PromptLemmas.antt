@@ -1,13 +1,9 @@
 -- Texts are answered before more is read.
-use Rattle.std.proofs.Common.{◌≡◌, inl, inr, ℕ, zero, suc, ◌-◌, ◌≤◌, ◌==◌, Bool, true, false, List, [], ◌∷◌, ◌++◌, length, take, drop, refl, sym, ap, ◌∙◌, subst, arith, append_assoc, append-nil, length-append, take-append-drop}
-use Rattle.std.proofs.lemmas.List.{take-append-le}
-use Rattle.std.specs.Prelude.{◌<◌}
-use Rattle.ob_base.specs.declared.config.Public.{Public}
+use Rattle.ob_headline.proofs.Words.{after_line, ap, append-nil, append_assoc, arith, Bool, drop, false, inl, inr, length, length-append, List, Public, refl, subst, suc, sym, take, take-append-drop, take-append-le, texts_in, true, zero, ℕ, [], ◌++◌, ◌-◌, ◌<◌, ◌==◌, ◌∙◌, ◌∷◌, ◌≡◌, ◌≤◌}
 use Rattle.ob_headline.proofs.TextLemmas.{texts_of-append, texts_of-nil}
 use Rattle.ob_headline.specs.Batches.{AllInsert, AnsweredBut, Wait}
-use Rattle.ob_headline.specs.KeyLine.{after_line}
 use Rattle.ob_headline.specs.Statements.{SpellFirst}
-use Rattle.ob_headline.specs.Texts.{rest_of, texts_in, texts_of}
+use Rattle.ob_headline.specs.Texts.{rest_of, texts_of}
 use Rattle.ob_headline.specs.Words.{Begins, before_read}
 
 -- the texts that were whole before the last read are among those of the bytes that were handed on, where no more than it

@@ -1,48 +1,20 @@
 -- Two runs that came to their end, and of which no text was answered that the store failed.
-use Rattle.std.specs.Prelude.{IsSome, if◌then◌else◌, is_some, not}
-use Rattle.std.specs.Option.{is_none}
-use Rattle.std.proofs.Common.{◌≡◌, ◌⊎◌, ◌+◌, ◌≤◌, ◌++◌, ◌||◌, ◌&&◌, inl, inr, ℕ, Bool, true, false, IsTrue, Ok, Err, List, [], ◌∷◌, length, Option, Some, None, refl, sym, ◌∙◌, ap, subst, append-nil, arith}
-use Rattle.ob_base.specs.declared.config.Plan.{Plan}
-use Rattle.ob_base.specs.declared.config.Plan.TheVariants.{Small, Large, Continuous, Hash}
-use Rattle.ob_base.specs.declared.config.Public.{Public}
-use Rattle.ob_base.specs.declared.refusal.Refusal.{Refusal}
-use Rattle.ob_base.specs.declared.refusal.Refusal.TheVariants.{StoreFault}
+use Rattle.ob_headline.proofs.Words.{AfterCount, Answer, ap, append-nil, arith, asked_by, BadKey, Base, Bool, Continuous, Cut, End, Ending, Err, failures, false, FliesNone, Gathering, gathering_after, goes_into, Hash, Headline, Holds, if◌then◌else◌, inl, inr, is_access, is_cut, is_joined, is_none, is_some, IsSome, IsTrue, Joined, Joins, KeySet, Large, Lawful, length, List, next, None, not, Ok, Option, outcome_failures, Outside, Plan, Public, Ran, refl, Refusal, refusal_now, Refused, Report, script, Seen, seen_by, Skeleton, skeleton, Small, Some, SomeRun, Spelt, Static, status_of, Stmt, StoreFault, subst, sym, trace, true, Usage, Whole, ℕ, [], ◌&&◌, ◌++◌, ◌+◌, ◌∙◌, ◌∷◌, ◌≡◌, ◌≤◌, ◌⊎◌}
+use Rattle.std.proofs.Common.{◌||◌}
 use Rattle.ob_base.specs.declared.refusal.Stop.TheVariants as Stops
-use Rattle.ob_base.specs.declared.seen.End.{End}
-use Rattle.ob_base.specs.declared.seen.End.TheVariants.{Static, Whole, AfterCount, Joined, Cut}
-use Rattle.ob_base.specs.declared.seen.Seen.{Seen}
-use Rattle.ob_base.specs.declared.skeleton.Skeleton.{Skeleton}
 use Rattle.ob_base.specs.declared.skeleton.Skeleton.TheVariants as K
-use Rattle.ob_verdict.specs.Outcomes.{refusal_now}
 use Rattle.ob_verdict.specs.declared.outcome.Outcome.{Outcome}
-use Rattle.ob_verdict.specs.declared.outcome.Outcome.TheVariants.{Refused}
 use Rattle.ob_headline.proofs.BatchLemmas.{cut_fails, gathers_alike, none_gathered}
 use Rattle.ob_headline.proofs.FlatLemmas.{no_leaf}
-use Rattle.ob_headline.specs.Bases.{Base}
-use Rattle.ob_headline.specs.Batches.{Joins}
-use Rattle.ob_headline.specs.Endings.{status_of}
-use Rattle.ob_headline.specs.Failures.{failures, outcome_failures}
-use Rattle.ob_headline.specs.Headline.{Headline}
-use Rattle.ob_headline.specs.Reruns.{Alike, EndsWell, GoOnFromOne, IsPlain, ShowAlike, SomeRun, Stated, any_counted, asked_by, failures_of, gathered_at, gathered_behind, plainly, plainly_at, seen_by, seen_plainly, shows_more, stated, stated_of}
+use Rattle.ob_headline.specs.Reruns.{Alike, EndsWell, GoOnFromOne, IsPlain, ShowAlike, Stated, any_counted, failures_of, gathered_at, gathered_behind, plainly, plainly_at, seen_plainly, shows_more, stated, stated_of}
 use Rattle.ob_headline.specs.Settings.{limit_of}
-use Rattle.ob_headline.specs.Words.{Answer, Outside}
 use Rattle.ob_headline.specs.Statements.{SpellFirst}
 use Rattle.ob_headline.proofs.ServedAlone.{SeenAlone}
-use Rattle.ob_headline.specs.Flights.{FliesNone}
 use Rattle.ob_headline.proofs.AloneRuns.{run_alone}
 use Rattle.ob_headline.specs.Status.{Because}
-use Rattle.ob_headline.specs.declared.ending.Ending.{Ending}
-use Rattle.ob_headline.specs.declared.ending.Ending.TheVariants.{Usage, BadKey, Ran}
-use Rattle.ob_headline.specs.declared.ending.Report.{Report}
-use Rattle.ob_mean.specs.Batches.{Gathering, gathering_after, goes_into, is_cut, is_joined}
-use Rattle.ob_mean.specs.Lawful.{EndsUncounted, Holds, IsCount, Lawful, is_counted, selects_rows}
-use Rattle.ob_mean.specs.Replay.{Spelt, is_access}
-use Rattle.ob_script.specs.Script.{script}
-use Rattle.ob_script.specs.Trace.{Served as Entry, next, trace}
-use Rattle.ob_seal.specs.KeySet.{KeySet}
-use Rattle.ob_sql.specs.Skeleton.{skeleton}
-use Rattle.ob_sql.specs.declared.stmt.Stmt.{Stmt}
-use Rattle.ob_sql.specs.declared.stmt.Stmt.TheVariants.{Create, Insert, Update, Delete, Drop as DropTable, SelectRows, SelectTotals}
+use Rattle.ob_mean.specs.Lawful.{EndsUncounted, IsCount, is_counted, selects_rows}
+use Rattle.ob_script.specs.Trace.{Served as Entry}
+use Rattle.ob_sql.specs.declared.stmt.Stmt.TheVariants.{Create}
 
 -- of each statement its skeleton, and what is seen of it, which is lawful, and joins the batch that is gathered or doesn't;
 -- none is cut off

@@ -1,18 +1,9 @@
 -- Over all runs that have a salt no two writes are under one salt and one number.
-use Rattle.std.specs.Prelude.{slice_get}
-use Rattle.std.proofs.Common.{◌≡◌, inl, inr, ℕ, Bool, List, [], Option, Some, refl, sym, ◌∙◌, ap, subst}
-use Rattle.ob_base.specs.declared.config.Config.{Config}
+use Rattle.ob_headline.proofs.Words.{Answer, ap, at_of, Bool, Config, FlightSettings, fresh, inl, inr, KeeperState, KeptEnding, List, Option, Outside, refl, Report, slice_get, Some, subst, sym, ℕ, [], ◌∙◌, ◌≡◌}
 use Rattle.ob_headline.proofs.SavedNumbers.{HasSalt, one_number, salted_own, seals_once, seals_salt}
-use Rattle.ob_headline.specs.Bases.{fresh}
 use Rattle.ob_headline.specs.SaltedHeadline.{RunSalted, own_keys}
 use Rattle.ob_headline.specs.SaltedRuns.{AnySalted, HaveSalts, SealsDrawn, SealsIn, drawn_salt, salt_of, saving, unsaved}
-use Rattle.ob_headline.specs.Words.{Answer, Outside}
-use Rattle.ob_headline.specs.declared.ending.KeptEnding.{KeptEnding}
-use Rattle.ob_headline.specs.declared.ending.Report.{Report}
-use Rattle.ob_headline.specs.declared.flight.FlightSettings.{FlightSettings}
-use Rattle.ob_reopen.specs.Keepers.{KeeperState}
 use Rattle.ob_seal.specs.KeySet.{pair_at}
-use Rattle.ob_vault.specs.Tied.{at_of}
 
 -- each block of a run that neither keeps nor saves its tables is by the keys of its own salt
 pub by_own_salt : (secret salt : List ℕ) (region place number : ℕ) → (pair_at (own_keys secret salt) (at_of region place number)).salt ≡ Some salt

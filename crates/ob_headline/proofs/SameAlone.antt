@@ -1,26 +1,13 @@
 -- Where none of a run's statements fly, each is served alone.
-use Rattle.std.specs.Prelude.{◌&&◌, ◌-◌, if◌then◌else◌, is_some, nat_le, nat_lt}
-use Rattle.std.specs.Option.{option_map}
-use Rattle.std.proofs.Common.{◌≡◌, ◌≤◌, ◌++◌, ℕ, Bool, true, false, List, [], ◌∷◌, length, Option, Some, None, Ok, Err, refl, sym, ◌∙◌, ap, arith}
-use Rattle.std.proofs.lemmas.Bool.Decides.{nat_tests}
-use Rattle.ob_base.specs.declared.config.Public.{Public}
-use Rattle.ob_base.specs.declared.seen.End.{End}
-use Rattle.ob_base.specs.declared.skeleton.Skeleton.{Skeleton}
+use Rattle.ob_headline.proofs.Words.{after, ap, arith, Base, batch_most, Bool, drawing, End, Err, false, first_course, FliesNone, gathered_now, Gathering, goes_into, how_now, if◌then◌else◌, is_full_now, is_some, KeySet, length, List, may_fly, meant_entries, nat_le, nat_lt, nat_tests, None, Ok, Option, option_map, Public, public_with, refl, seen_or_cut, Served, served, served_full, Session, Skeleton, skeleton, Some, Spelt, start, Stmt, sym, trace, trace_alone, true, whole_of, words_of, ℕ, [], ◌&&◌, ◌++◌, ◌-◌, ◌∙◌, ◌∷◌, ◌≡◌, ◌≤◌}
 use Rattle.ob_base.specs.declared.skeleton.Skeleton.TheVariants as K
 use Rattle.ob_base.specs.declared.skeleton.Source.TheVariants.{Table as OneTable, Join}
-use Rattle.ob_headline.specs.Bases.{Base, drawing, public_with, start}
-use Rattle.ob_headline.specs.Batches.{after_now, gathered_now, meant_seen}
-use Rattle.ob_headline.specs.Disturbed.{Course, course_alone, course_now, course_with, entries_now, entries_with, first_course, landed, meant_entries, meant_together, meant_trace, now_alone}
-use Rattle.ob_headline.specs.Flights.{FliesNone, may_fly, whole_of, words_of}
-use Rattle.ob_mean.specs.Batches.{Gathering, and_one, batch_most, begins_batch, begun_by, goes_into, inserts_flat, is_unrefused, leaves_room}
-use Rattle.ob_mean.specs.Replay.{How, Session, Spelt, after, all_served, how_now, hows, is_full_now, seen_or_cut, served, served_full}
+use Rattle.ob_headline.specs.Batches.{after_now, meant_seen}
+use Rattle.ob_headline.specs.Disturbed.{Course, course_alone, course_now, course_with, entries_now, entries_with, landed, meant_together, meant_trace, now_alone}
+use Rattle.ob_mean.specs.Batches.{and_one, begins_batch, begun_by, inserts_flat, is_unrefused, leaves_room}
+use Rattle.ob_mean.specs.Replay.{How, all_served, hows}
 use Rattle.ob_mean.specs.Replay as Hows
-use Rattle.ob_script.proofs.FlightLemmas.{trace_alone}
 use Rattle.ob_script.specs.Flights.{Alone, Entry, all_alone, trace_in}
-use Rattle.ob_script.specs.Trace.{Served, trace}
-use Rattle.ob_seal.specs.KeySet.{KeySet}
-use Rattle.ob_sql.specs.Skeleton.{skeleton}
-use Rattle.ob_sql.specs.declared.stmt.Stmt.{Stmt}
 
 pub whole_alone : (seen last : List Served) → length last ≤ 1 → whole_of (length seen) (all_alone (seen ++ last)) ≡ all_alone seen
 unfolding whole_of

@@ -1,39 +1,17 @@
 -- Which statements fly together follows from what is seen of them, and from which come right behind a text that is none.
-use Rattle.std.specs.Prelude.{◌&&◌, ◌-◌, ◌<◌, drop, if◌then◌else◌, map, nat_lt, not, slice_get, take, ⊤}
-use Rattle.std.specs.Option.{option_map_or}
-use Rattle.std.specs.List.{All}
-use Rattle.std.proofs.Common.{◌≡◌, ◌+◌, ◌≤◌, ◌++◌, inl, inr, ℕ, zero, suc, Bool, true, false, List, [], ◌∷◌, length, length-append, Option, Some, None, Ok, Err, refl, sym, ◌∙◌, ap, subst, arith}
-use Rattle.std.proofs.lemmas.Bool.{cases_lt}
-use Rattle.std.proofs.lemmas.List.Elements.{All-head}
+use Rattle.ob_headline.proofs.Words.{All, All-head, Answer, ap, AreEntries, AreSeen, arith, asked_by, Bool, cases_lt, drop, End, Err, false, FlightSettings, Gathering, gathering_after, get_back, get_front, headings_of, if◌then◌else◌, inl, inr, length, length-append, List, map, may_fly, most_of, nat_lt, next, None, not, Ok, Option, option_map_or, Public, refl, script, seats_of, Seen, seen_by, Served, Skeleton, slice_get, Some, SomeRun, Spelt, Stmt, subst, suc, sym, Table, tables_after, tables_then, take, true, Whole, zero, ℕ, [], ⊤, ◌&&◌, ◌++◌, ◌+◌, ◌-◌, ◌<◌, ◌∙◌, ◌∷◌, ◌≡◌, ◌≤◌}
 use Rattle.std.proofs.Math.Seq.{take-length}
-use Rattle.ob_base.specs.Stored.{headings_of}
-use Rattle.ob_base.specs.declared.config.Public.{Public}
-use Rattle.ob_base.specs.declared.schema.Table.{Table}
-use Rattle.ob_base.specs.declared.seen.End.{End}
-use Rattle.ob_base.specs.declared.seen.End.TheVariants.{Static, Whole, AfterCount, Joined, Cut}
-use Rattle.ob_base.specs.declared.seen.Seen.{Seen}
-use Rattle.ob_base.specs.declared.skeleton.Skeleton.{Skeleton}
 use Rattle.ob_base.specs.declared.skeleton.Skeleton.TheVariants as K
 use Rattle.ob_base.specs.declared.skeleton.Source.TheVariants.{Table as OneTable, Join}
 use Rattle.ob_headline.proofs.FlightSeats.{seats_get, seats_long}
 use Rattle.ob_headline.proofs.RerunLemmas.{answered_all}
 use Rattle.ob_headline.proofs.ServedAlone.{AreOf}
-use Rattle.ob_headline.specs.Accesses.{AreSeen}
-use Rattle.ob_headline.specs.Flights.{AreEntries, AreGathered, IsEntry, Seat, gathered_then, may_fly, most_flown, most_of, place_now, seat_aloft, seat_alone, seats, seats_aloft, seats_of, served_by}
-use Rattle.ob_headline.specs.Reruns.{GoOnFromOne, ShowTheSame, SomeRun, Stated, asked_by, breaks_in, seen_by, stated}
+use Rattle.ob_headline.specs.Flights.{AreGathered, IsEntry, Seat, gathered_then, most_flown, place_now, seat_aloft, seat_alone, seats, seats_aloft, served_by}
+use Rattle.ob_headline.specs.Reruns.{GoOnFromOne, ShowTheSame, Stated, breaks_in, stated}
 use Rattle.ob_headline.specs.Statements.{statements}
-use Rattle.ob_headline.specs.Words.{Answer}
-use Rattle.ob_headline.specs.declared.flight.FlightSettings.{FlightSettings}
-use Rattle.ob_mean.specs.Batches.{Gathering, gathering_after}
 use Rattle.ob_mean.specs.Refusals.{is_index}
-use Rattle.ob_mean.specs.Replay.{Spelt}
-use Rattle.ob_script.proofs.Eaches.{get_back, get_front}
 use Rattle.ob_script.specs.FlightLaws.{SelectsFromOne}
 use Rattle.ob_script.specs.Flights.{Alone, Entry, Together, drawn, flight_accesses, next_flight, served_in, trace_in, turns_of, words_from}
-use Rattle.ob_script.specs.Script.{script}
-use Rattle.ob_script.specs.Tables.{tables_after, tables_then}
-use Rattle.ob_script.specs.Trace.{Served, next}
-use Rattle.ob_sql.specs.declared.stmt.Stmt.{Stmt}
 
 -- ---- they are these statements
 seen_are : (Leaves : Public → Stmt → Seen → Type 0) (seats : List Seat) (g : Option Gathering) (spelt : List Spelt) (answers : List Answer) (seen : List Served) → AreSeen Leaves seats g spelt answers seen → AreOf spelt seen

@@ -1,12 +1,5 @@
 -- Runs that save their tables answer as one run does over the texts that took effect, in whichever way each of them ended.
-use Rattle.std.specs.Prelude.{nat_lt, if◌then◌else◌}
-use Rattle.std.proofs.Common.{◌≡◌, ◌<◌, ◌≤◌, ◌+◌, ◌^◌, ◌++◌, ℕ, Bool, true, false, IsTrue, List, [], ◌∷◌, length, Option, Some, None, Ok, Err, inl, inr, refl, sym, ◌∙◌, ap, subst, arith}
-use Rattle.std.proofs.lemmas.Bool.Decides.{nat_tests}
-use Rattle.clap.specs.Words.{Text}
-use Rattle.ob_base.specs.Stored.{headings}
-use Rattle.ob_base.specs.declared.config.Config.{Config}
-use Rattle.ob_reopen.specs.declared.mark.Mark.{Mark}
-use Rattle.ob_reopen.specs.declared.mark.Mark.TheVariants.{Fresh, InUse, Closed, Begun, Saved}
+use Rattle.ob_headline.proofs.Words.{Access, after, after_all, after_room, Answer, AnswersFrom, ap, AreAlike, AreFlat, arith, Base, batch_most, Begun, Bool, Closed, Closing, closing_named, Config, drawing, Err, false, FliesNone, flying, Fresh, fresh, headings, if◌then◌else◌, inl, inr, InUse, is_full_now, IsTrue, KeptRegion, KeySet, length, List, Mark, nat_lt, nat_tests, None, Ok, Opened, Option, plain, public_with, refl, RunSaved, Saved, seats_of, Served, Session, session_at, Some, Spelt, start, Stmt, StoreState, subst, sym, Tables, Text, trace, trace_of, true, words_of, ℕ, [], ◌++◌, ◌+◌, ◌<◌, ◌^◌, ◌∙◌, ◌∷◌, ◌≡◌, ◌≤◌}
 use Rattle.ob_headline.proofs.AlikeSessions.{grows, keeps_plain}
 use Rattle.ob_headline.proofs.AsOne.{none_there, unlied}
 use Rattle.ob_headline.proofs.BeginsAlike.{Begins, begins_anew, begins_reopened}
@@ -14,35 +7,18 @@ use Rattle.ob_headline.proofs.AloneRuns.{RanAlone, are_of, headline_alone}
 use Rattle.ob_headline.proofs.BaseLemmas.{from_flying, unflown}
 use Rattle.ob_headline.proofs.EffectLemmas.{effects_on, left_alone, left_is}
 use Rattle.ob_headline.proofs.ServedAlone.{AnswersAlone, AreOf, as_alone}
-use Rattle.ob_headline.specs.Flights.{FliesNone, seats_of, trace_of, words_of}
-use Rattle.ob_headline.specs.Meaning.{AnswersFrom}
-use Rattle.ob_base.specs.declared.access.Access.{Access}
 use Rattle.ob_script.specs.Flights.{Entry}
 use Rattle.ob_headline.proofs.InStep.{InStep}
 use Rattle.ob_headline.proofs.SavedMarks.{begun_held, leaves_held}
 use Rattle.ob_headline.proofs.SettingLemmas.{saved_settings}
-use Rattle.ob_headline.specs.Bases.{Base, Opened, drawing, flying, fresh, public_with, session_at, start}
-use Rattle.ob_headline.specs.Keeping.{closing_named}
-use Rattle.ob_headline.specs.SavedHeadline.{LeavesMark, MayTake, RestsBehind, RunSaved, SessionSaved, left_by}
+use Rattle.ob_headline.specs.SavedHeadline.{LeavesMark, MayTake, RestsBehind, SessionSaved, left_by}
 use Rattle.ob_headline.specs.SavedRuns.{AnswerInOne, AnsweredInOne, Effect, GoOnSaved, MayHaveAll, MayHaveMore, OneSaved, Outlasts, TakesEffect, all_effects, effects_of, held_by, kept_by, saved_count, saved_effects, saved_secret, session_behind, texts_of}
 use Rattle.ob_headline.specs.Saving.{BeginsSaved, ReopensSaved, RestsAlike, RestsAt, begun_mark}
 use Rattle.ob_headline.specs.Settings.{IsTakenSaved, flight_of, saved_settings_of}
 use Rattle.ob_headline.specs.Usage.{is_saved, is_traced, saved_usage}
-use Rattle.ob_headline.specs.Words.{Answer}
-use Rattle.ob_mean.proofs.ReplayLemmas.{after_room}
-use Rattle.ob_mean.specs.Flats.{AreFlat}
-use Rattle.ob_mean.specs.Batches.{batch_most}
-use Rattle.ob_mean.specs.Replay.{Alone, Session, Spelt, after, after_all, is_full_now}
-use Rattle.ob_mean.specs.Verdict.{Tables}
+use Rattle.ob_mean.specs.Replay.{Alone}
 use Rattle.ob_reopen.specs.Saved.{RestsBy}
-use Rattle.ob_reopen.specs.declared.closing.Closing.{Closing}
-use Rattle.ob_script.specs.Trace.{Served, trace}
-use Rattle.ob_seal.specs.KeySet.{KeySet}
-use Rattle.ob_sql.specs.declared.stmt.Stmt.{Stmt}
-use Rattle.ob_store.specs.State.{KeptRegion, StoreState}
-use Rattle.ob_verdict.proofs.PlainSettings.{plain}
 use Rattle.ob_verdict.proofs.AlikeTables.{alike_chained}
-use Rattle.ob_verdict.specs.Alike.{AreAlike}
 
 -- ---- texts one behind the other
 step_is : (t : Session) (x : Spelt) (answer : Option Answer) (xs : List Spelt) → TakesEffect t x answer → after_all t (x ∷ xs) [] ≡ after_all (session_behind t x) xs []

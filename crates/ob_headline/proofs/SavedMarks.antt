@@ -1,25 +1,8 @@
 -- The mark that is held once a run ended that saves its tables, and what rests for it where no statement was served.
-use Rattle.std.specs.Prelude.{MatchBool, ◌⊎◌, ◌==◌}
-use Rattle.std.proofs.Common.{◌≡◌, ℕ, Bool, true, false, IsTrue, List, Option, Some, None, Result, Ok, Err, inl, inr, refl, sym, ◌∙◌, ap, subst}
-use Rattle.clap.specs.Words.{Text}
-use Rattle.ob_base.specs.declared.config.Config.{Config}
-use Rattle.ob_base.specs.declared.fault.Failed.{Failed}
-use Rattle.ob_reopen.specs.declared.mark.Mark.{Mark}
-use Rattle.ob_reopen.specs.declared.mark.Mark.TheVariants.{Fresh, InUse, Closed, Begun, Saved}
-use Rattle.ob_headline.specs.Bases.{Base}
-use Rattle.ob_headline.specs.Keeping.{closing_named}
-use Rattle.ob_headline.specs.SavedHeadline.{RunSaved}
+use Rattle.ob_headline.proofs.Words.{Answer, ap, Base, Begun, Bool, Closed, closing_named, Config, Err, Failed, false, FlightSettings, Fresh, inl, inr, InUse, IsTrue, KeeperState, KeptEnding, KeptRegion, KeySet, List, Mark, MatchBool, None, Ok, Option, OtherPack, Outside, refl, Report, Result, RunSaved, Saved, Some, StoreState, subst, sym, Tables, Text, true, ℕ, ◌==◌, ◌∙◌, ◌≡◌, ◌⊎◌}
 use Rattle.ob_headline.specs.SavedRuns.{LeavesHeld, Outlasts, SavedRun}
 use Rattle.ob_headline.specs.Saving.{BeganSaved, BeginsSaved, EndsMarked, EndsSalted, EndsShut, HandsBegun, LooksBare, RefusesMark, RestsAt, StaysLocked, StaysShut, begun_mark}
-use Rattle.ob_headline.specs.Words.{Answer, Outside}
-use Rattle.ob_headline.specs.declared.ending.KeptEnding.{KeptEnding}
-use Rattle.ob_headline.specs.declared.ending.KeptEnding.TheVariants.{OtherPack}
-use Rattle.ob_headline.specs.declared.ending.Report.{Report}
-use Rattle.ob_mean.specs.Verdict.{Tables}
-use Rattle.ob_reopen.specs.Keepers.{GivesMark, KeeperState}
-use Rattle.ob_seal.specs.KeySet.{KeySet}
-use Rattle.ob_store.specs.State.{KeptRegion, StoreState}
-use Rattle.ob_headline.specs.declared.flight.FlightSettings.{FlightSettings}
+use Rattle.ob_reopen.specs.Keepers.{GivesMark}
 
 -- ---- what is kept stays
 abbrev Stays : (old new : StoreState) → Type 0

@@ -1,56 +1,25 @@
 -- Over all runs that save their tables no two writes are under one salt and one number.
-use Rattle.std.specs.Prelude.{slice_get}
-use Rattle.std.proofs.Common.{◌≡◌, ◌<◌, ◌+◌, ◌-◌, ◌++◌, inl, inr, ℕ, zero, suc, Bool, List, [], ◌∷◌, length, map, Option, Some, None, refl, sym, ◌∙◌, ap, subst, arith}
-use Rattle.std.proofs.lemmas.Bool.{cases_lt}
-use Rattle.clap.specs.Words.{Text}
-use Rattle.ob_base.specs.Accesses.{read_at}
-use Rattle.ob_base.specs.Lists.{each}
-use Rattle.ob_base.specs.Stored.{headings_of}
-use Rattle.ob_base.specs.declared.access.Access.{Access}
-use Rattle.ob_base.specs.declared.access.Access.TheVariants.{Write}
-use Rattle.ob_base.specs.declared.config.Config.{Config}
-use Rattle.ob_reopen.specs.declared.mark.Mark.{Mark}
-use Rattle.ob_reopen.specs.declared.mark.Mark.TheVariants.{Fresh, InUse, Closed, Begun, Saved}
-use Rattle.ob_base.specs.declared.schema.Table.{Table}
+use Rattle.ob_headline.proofs.Words.{Access, Accesses, Answer, ap, AreFlat, arith, at_of, Base, Begun, Bool, cases_lt, Closed, Closing, closing_named, Config, each, Ending, FlightSettings, flying, Fresh, get_back, get_front, headings_of, inl, inr, InUse, IsSealed, KeeperState, KeptEnding, KeySet, length, List, Listed, map, Mark, None, Option, Outside, read_at, refl, Report, RunSaved, Saved, slice_get, Some, Start, StoreState, Story, subst, suc, sym, Table, Text, trace_of, Write, zero, ℕ, [], ◌++◌, ◌+◌, ◌-◌, ◌<◌, ◌∙◌, ◌∷◌, ◌≡◌}
 use Rattle.ob_headline.proofs.AloneLemmas.{alone}
 use Rattle.ob_headline.proofs.BegunLemmas.{begun_flying, begun_fresh, none_given}
 use Rattle.ob_headline.proofs.FlightWrites.{run_writes}
 use Rattle.ob_headline.proofs.IndexWrites.{Onto, onto_at, onto_both, onto_each}
 use Rattle.ob_headline.proofs.LeftLemmas.{shows_all}
-use Rattle.ob_headline.specs.Accesses.{Accesses}
-use Rattle.ob_headline.specs.Bases.{Base, flying}
-use Rattle.ob_headline.specs.Flights.{trace_of}
-use Rattle.ob_headline.specs.Keeping.{closing_named}
 use Rattle.ob_headline.specs.KeptHeadline.{PassesBoth}
-use Rattle.ob_headline.specs.SavedHeadline.{RunSaved, SessionSaved}
+use Rattle.ob_headline.specs.SavedHeadline.{SessionSaved}
 use Rattle.ob_headline.specs.SavedRuns.{AnySaved, HaveOwnSalts, SavedRun, Seals, SealsAlone, WritesAlone, saved_salt}
 use Rattle.ob_headline.specs.Saving.{BeginsSaved, ReopensSaved}
-use Rattle.ob_headline.specs.Sealing.{IsSealed}
 use Rattle.ob_headline.specs.Shown.{IsBegun, OfIndex, Wrote, number_at}
-use Rattle.ob_headline.specs.Story.{Story}
-use Rattle.ob_headline.specs.Words.{Answer, Outside}
-use Rattle.ob_headline.specs.declared.ending.Ending.{Ending}
-use Rattle.ob_headline.specs.declared.ending.KeptEnding.{KeptEnding}
-use Rattle.ob_headline.specs.declared.ending.Report.{Report}
-use Rattle.ob_mean.specs.Flats.{AreFlat}
 use Rattle.ob_reopen.specs.Closings.{open_script, open_table, read_script}
-use Rattle.ob_reopen.specs.Keepers.{KeeperState}
 use Rattle.ob_reopen.specs.Reopened.{opening_script}
 use Rattle.ob_reopen.specs.Saved.{salted_of, salted_regions}
-use Rattle.ob_reopen.specs.declared.closing.Closing.{Closing}
-use Rattle.ob_reopen.specs.declared.listed.Listed.{Listed}
-use Rattle.ob_script.proofs.Eaches.{get_back, get_front}
 use Rattle.ob_seal.proofs.Salts.{own_pair}
 use Rattle.ob_seal.proofs.Spans.{of_one}
-use Rattle.ob_seal.specs.KeySet.{KeySet, pair_at}
+use Rattle.ob_seal.specs.KeySet.{pair_at}
 use Rattle.ob_seal.specs.Sealed.{AreBefore, keys_salted}
 use Rattle.ob_seal.specs.declared.At.{At}
 use Rattle.ob_seal.specs.declared.Salted.{Salted}
 use Rattle.ob_seal.specs.declared.pairs.Pair.{Pair}
-use Rattle.ob_store.specs.State.{StoreState}
-use Rattle.ob_vault.specs.State.{Start}
-use Rattle.ob_vault.specs.Tied.{at_of}
-use Rattle.ob_headline.specs.declared.flight.FlightSettings.{FlightSettings}
 
 -- ---- what a run begins with
 reopened_begun : (closed : Option (List ℕ)) (closing : Closing) (config : Config) (secret salt : List ℕ) (keys : KeySet) (base : Base) (old new : StoreState) → ReopensSaved closed closing config secret salt keys base old new → IsBegun base

@@ -1,29 +1,14 @@
 -- A run that saves its tables under another secret than the run that left the mark which is held.
-use Rattle.std.specs.Prelude.{◌≢◌, ◌==◌, MatchBool}
-use Rattle.std.proofs.Common.{◌≡◌, ℕ, Bool, true, false, List, Option, Some, None, Result, Ok, Err, inl, inr, sym, subst}
-use Rattle.clap.specs.Words.{Text}
-use Rattle.ob_base.specs.declared.config.Config.{Config}
-use Rattle.ob_base.specs.declared.fault.Failed.{Failed}
-use Rattle.ob_reopen.specs.declared.mark.Mark.{Mark}
-use Rattle.ob_reopen.specs.declared.mark.Mark.TheVariants.{Fresh, InUse, Closed, Begun, Saved}
-use Rattle.ob_headline.specs.Bases.{Base}
-use Rattle.ob_headline.specs.Keeping.{closing_named, opening_end}
-use Rattle.ob_headline.specs.SavedHeadline.{RunSaved}
+use Rattle.ob_headline.proofs.Words.{Answer, Base, Begun, Bool, Closed, Closing, closing_named, Config, Err, Failed, false, FlightSettings, Fresh, inl, inr, InUse, KeeperFault, KeeperState, KeptEnding, KeptRegion, KeySet, List, Mark, MatchBool, None, Ok, Option, OtherPack, Outside, Report, Result, RunSaved, Saved, Some, StoreState, subst, sym, Tables, Text, true, ℕ, ◌==◌, ◌≡◌}
+use Rattle.std.specs.Prelude.{◌≢◌}
+use Rattle.ob_headline.specs.Keeping.{opening_end}
 use Rattle.ob_headline.specs.SavedRuns.{IsOfOther, IsToldWrong, SavedRun, saved_secret}
 use Rattle.ob_headline.specs.Saving.{BeginsSaved, EndsMarked, EndsSalted, EndsShut, HandsBegun, LooksBare, RefusesMark, RestsAt, StaysLocked, StaysShut}
-use Rattle.ob_headline.specs.Words.{Answer, Outside}
-use Rattle.ob_headline.specs.declared.ending.KeptEnding.{KeptEnding}
-use Rattle.ob_headline.specs.declared.ending.KeptEnding.TheVariants.{OtherKey, OtherPack, KeeperFault}
-use Rattle.ob_headline.specs.declared.ending.Report.{Report}
-use Rattle.ob_headline.specs.declared.flight.FlightSettings.{FlightSettings}
-use Rattle.ob_mean.specs.Verdict.{Tables}
-use Rattle.ob_reopen.specs.Keepers.{GivesMark, KeeperState}
-use Rattle.ob_reopen.specs.declared.closing.Closing.{Closing}
+use Rattle.ob_headline.specs.declared.ending.KeptEnding.TheVariants.{OtherKey}
+use Rattle.ob_reopen.specs.Keepers.{GivesMark}
 use Rattle.ob_reopen.specs.declared.fault.OpenErr.{OpenErr}
 use Rattle.ob_reopen.specs.declared.fault.OpenErr.TheVariants as OpenErrs
-use Rattle.ob_seal.specs.KeySet.{KeySet}
 use Rattle.ob_seal.specs.Sealed.{check_of}
-use Rattle.ob_store.specs.State.{KeptRegion, StoreState}
 
 -- ---- it doesn't begin
 unbegun : (mark : Mark) (config : Config) (secret salt : List ℕ) (keys : KeySet) (base : Base) (old new : StoreState) → IsOfOther secret mark → BeginsSaved mark config secret salt keys base old new → ⊥

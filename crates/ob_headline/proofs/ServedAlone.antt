@@ -1,30 +1,13 @@
 -- Where none of a run's statements fly, what it goes by follows from what is public before the first one, one after the other:
 -- what is asked, seen and answered then is said of statements that are each served alone.
-use Rattle.std.specs.Prelude.{◌↔◌, ◌-◌, take, if◌then◌else◌}
-use Rattle.std.proofs.Common.{◌≡◌, ◌⊎◌, ◌+◌, ◌++◌, ℕ, zero, suc, IsTrue, Bool, false, List, [], ◌∷◌, length, Option, Some, None, Ok, Err, refl, sym, ◌∙◌, ap, subst, arith}
-use Rattle.ob_base.specs.declared.config.Public.{Public}
-use Rattle.ob_base.specs.declared.refusal.Refusal.TheVariants.{StoreFault}
-use Rattle.ob_base.specs.declared.seen.Seen.{Seen}
-use Rattle.ob_headline.specs.Accesses.{AreSeen, Says}
-use Rattle.ob_headline.specs.Bases.{Base}
-use Rattle.ob_headline.specs.Batches.{Joins, is_failed}
-use Rattle.ob_headline.specs.Flights.{AreEntries, Entered, FliesNone, Seat, most_of, seats, served_by, trace_of, words_of}
-use Rattle.ob_headline.specs.Meaning.{AnswersFrom, AnswersIn, AnswersLast, BeginsAnswer, StopsAt, session_after}
-use Rattle.ob_headline.specs.Story.{Story}
-use Rattle.ob_headline.specs.Words.{Answer, refused_at}
-use Rattle.ob_headline.specs.declared.ending.Ending.{Ending}
-use Rattle.ob_mean.proofs.ReplayLemmas.{after_room}
-use Rattle.ob_mean.specs.Batches.{Gathering, gathering_after}
-use Rattle.ob_mean.specs.Lawful.{Lawful}
-use Rattle.ob_mean.specs.Replay.{Broken, How, IsCutOff, Session, Spelt, after, after_all, head_of, is_full_now, rest_of, seen_or_cut, served}
-use Rattle.ob_script.proofs.FlightLemmas.{trace_alone}
+use Rattle.ob_headline.proofs.Words.{after, after_all, after_room, Answer, AnswersFrom, AnswersIn, ap, AreEntries, AreSeen, arith, Base, Bool, Broken, Ending, Err, false, FliesNone, Gathering, gathering_after, if◌then◌else◌, is_failed, is_full_now, IsTrue, Joins, Lawful, length, List, most_of, next, None, Ok, Option, Public, refl, refusal_now, Refused, script, Seen, seen_or_cut, Served, served, Session, session_after, skeleton, Some, Spelt, Stmt, StoreFault, Story, subst, suc, sym, take, trace, trace_alone, trace_of, words_of, zero, ℕ, [], ◌++◌, ◌+◌, ◌-◌, ◌∙◌, ◌∷◌, ◌≡◌, ◌⊎◌}
+use Rattle.std.specs.Prelude.{◌↔◌}
+use Rattle.ob_headline.specs.Accesses.{Says}
+use Rattle.ob_headline.specs.Flights.{Entered, Seat, seats, served_by}
+use Rattle.ob_headline.specs.Meaning.{AnswersLast, BeginsAnswer, StopsAt}
+use Rattle.ob_headline.specs.Words.{refused_at}
+use Rattle.ob_mean.specs.Replay.{How, IsCutOff, head_of, rest_of}
 use Rattle.ob_script.specs.Flights.{Alone, Entry, Together, all_alone}
-use Rattle.ob_script.specs.Script.{script}
-use Rattle.ob_script.specs.Trace.{Served, next, trace}
-use Rattle.ob_sql.specs.Skeleton.{skeleton}
-use Rattle.ob_sql.specs.declared.stmt.Stmt.{Stmt}
-use Rattle.ob_verdict.specs.Outcomes.{refusal_now}
-use Rattle.ob_verdict.specs.declared.outcome.Outcome.TheVariants.{Refused}
 
 -- ---- entries
 -- none of them is a flight

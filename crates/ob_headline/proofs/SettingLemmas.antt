@@ -1,8 +1,5 @@
 -- Whether the tables are kept, by the words and by the settings that they spell.
-use Rattle.std.specs.Prelude.{nat_le, codes, option_map}
-use Rattle.std.proofs.Common.{◌&&◌, ◌+◌, ◌*◌, ℕ, if◌then◌else◌, sym, ap, subst, refl, Bool, true, false, ◌≡◌, ◌∙◌, List, Option, Some, None}
-use Rattle.clap.specs.Words.{Text}
-use Rattle.ob_base.specs.declared.config.Config.{Config}
+use Rattle.ob_headline.proofs.Words.{ap, Bool, codes, Config, false, if◌then◌else◌, List, nat_le, None, Option, option_map, refl, Some, subst, sym, Text, true, ℕ, ◌&&◌, ◌*◌, ◌+◌, ◌∙◌, ◌≡◌}
 use Rattle.ob_base.specs.declared.config.Planner.{Planner}
 use Rattle.ob_headline.specs.Settings.{batch_in, joined, may_mark, may_pad, number_in, pad_in, planner_in, saved_settings_of, saving, settings_by, settings_in, settings_of}
 use Rattle.ob_headline.specs.Usage.{is_kept, is_saved, is_set, kept_usage, saved_usage, value_of}

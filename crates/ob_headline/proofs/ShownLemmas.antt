@@ -1,27 +1,13 @@
 -- What runs ask of which no text was answered that the store failed, however they ended, SELECTs of rows included.
-use Rattle.std.specs.Prelude.{if◌then◌else◌, is_some}
-use Rattle.std.proofs.Common.{◌≡◌, ◌+◌, ◌≤◌, ◌++◌, inl, inr, ℕ, Bool, true, false, Ok, Err, List, [], ◌∷◌, length, Option, None, refl, sym, ◌∙◌, ap, subst, append_assoc, arith}
-use Rattle.ob_base.specs.declared.access.Access.{Access}
-use Rattle.ob_base.specs.declared.config.Public.{Public}
-use Rattle.ob_base.specs.declared.seen.Seen.{Seen}
-use Rattle.ob_base.specs.declared.skeleton.Skeleton.{Skeleton}
+use Rattle.ob_headline.proofs.Words.{Access, Answer, ap, append_assoc, arith, asked_by, Bool, Err, failures, false, FliesNone, Gathering, if◌then◌else◌, inl, inr, is_cut, is_some, Joins, Lawful, length, List, next, None, Ok, Option, Public, refl, script, Seen, seen_by, Skeleton, skeleton, SomeRun, Spelt, Stmt, subst, sym, trace, true, ℕ, [], ◌++◌, ◌+◌, ◌∙◌, ◌∷◌, ◌≡◌, ◌≤◌}
 use Rattle.ob_headline.proofs.BatchLemmas.{cut_fails}
 use Rattle.ob_headline.proofs.KindLemmas.{begins_all, begins_by, begins_last, begins_more}
 use Rattle.ob_headline.proofs.RerunLemmas.{GathersIf, gathered_if, gathers_none, gathers_on, none_before, not_cut, plain_unless, shows_plainly}
-use Rattle.ob_headline.specs.Batches.{Joins}
-use Rattle.ob_headline.specs.Failures.{failures}
-use Rattle.ob_headline.specs.Reruns.{AlikeSoFar, AsksAsShown, GoOnFromOne, OneBegins, SomeRun, Stated, asked_by, failures_of, gathered_at, gathered_behind, plainly_at, seen_by, shown, shown_as, shows_more, stated, stated_of}
-use Rattle.ob_headline.specs.Words.{Answer, Begins}
+use Rattle.ob_headline.specs.Reruns.{AlikeSoFar, AsksAsShown, GoOnFromOne, OneBegins, Stated, failures_of, gathered_at, gathered_behind, plainly_at, shown, shown_as, shows_more, stated, stated_of}
+use Rattle.ob_headline.specs.Words.{Begins}
 use Rattle.ob_headline.proofs.ServedAlone.{SeenAlone}
-use Rattle.ob_headline.specs.Flights.{FliesNone}
 use Rattle.ob_headline.proofs.AloneRuns.{few_spelt, run_alone}
-use Rattle.ob_mean.specs.Batches.{Gathering, is_cut}
-use Rattle.ob_mean.specs.Lawful.{Lawful}
-use Rattle.ob_mean.specs.Replay.{Spelt}
-use Rattle.ob_script.specs.Script.{script}
-use Rattle.ob_script.specs.Trace.{Served as Entry, next, trace}
-use Rattle.ob_sql.specs.Skeleton.{skeleton}
-use Rattle.ob_sql.specs.declared.stmt.Stmt.{Stmt}
+use Rattle.ob_script.specs.Trace.{Served as Entry}
 
 -- ---- first parts
 nothing_begins : {A : Type 0} (xs : List A) → Begins [] xs

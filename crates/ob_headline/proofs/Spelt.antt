@@ -1,15 +1,12 @@
 -- Words of the command lines, and the settings that they spell, computed.
-use Rattle.std.specs.Prelude.{true, false, Option, Some, None, codes, option_and_then}
-use Rattle.std.proofs.Common.{◌≡◌, List, [], ◌∷◌, refl}
+use Rattle.ob_headline.proofs.Words.{codes, Config, Continuous, false, FlightSettings, Hash, Large, List, None, Option, refl, Some, Text, true, [], ◌∷◌, ◌≡◌}
+use Rattle.std.specs.Prelude.{option_and_then}
 use Rattle.clap.proofs.OnLiterals.{clap_on_literals}
-use Rattle.clap.specs.Words.{Text, fault_of}
+use Rattle.clap.specs.Words.{fault_of}
 use Rattle.clap.specs.declared.error.kind.ErrorKind.TheVariants as kind
-use Rattle.ob_base.specs.declared.config.Config.{Config}
-use Rattle.ob_base.specs.declared.config.Plan.TheVariants.{Continuous, Large, Hash}
 use Rattle.ob_base.specs.declared.config.Planner.TheVariants.{Auto, Cheapest, Forced}
 use Rattle.ob_headline.specs.Settings.{batch_in, fitted, flight_beside, flight_by, flight_in, flight_of, generated_by, number_in, pad_in, planner_in, saved_settings_of, seed_in, settings_of}
 use Rattle.ob_headline.specs.Usage.{Parses, is_saved, kept_usage, mark_of, meddle_usage, store_of, usage}
-use Rattle.ob_headline.specs.declared.flight.FlightSettings.{FlightSettings}
 
 -- ---- one value
 the_least : number_in 4 65536 64 (Some (codes "4")) ≡ Some 4

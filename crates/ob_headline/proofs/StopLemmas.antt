@@ -1,23 +1,10 @@
 -- Where a run with `--keep` or `--save` stops.
-use Rattle.std.specs.Prelude.{◌==◌, MatchBool}
-use Rattle.std.proofs.Common.{◌≡◌, ℕ, Bool, true, false, List, Option, None, Result, Ok, Err, inl, inr, sym, ◌∙◌}
-use Rattle.ob_base.specs.declared.config.Config.{Config}
-use Rattle.ob_base.specs.declared.fault.Failed.{Failed}
-use Rattle.ob_reopen.specs.declared.mark.Mark.{Mark}
-use Rattle.ob_reopen.specs.declared.mark.Mark.TheVariants.{Fresh, InUse, Closed, Begun, Saved}
-use Rattle.ob_headline.specs.Keeping.{EndsAtMark, NotBegun, NotReopened, closing_end, closing_named, opening_end}
+use Rattle.ob_headline.proofs.Words.{Begun, Bool, Closed, CloseErr, Closing, closing_named, Config, Err, Failed, false, Fresh, inl, inr, InUse, KeeperState, KeptEnding, KeySet, List, Mark, MatchBool, None, Ok, Option, OtherPack, Plain, Ran, Result, Saved, StoreState, sym, true, ℕ, ◌==◌, ◌∙◌, ◌≡◌}
+use Rattle.ob_headline.specs.Keeping.{EndsAtMark, NotBegun, NotReopened, closing_end, opening_end}
 use Rattle.ob_headline.specs.Saving.{EndsMarked, EndsSalted, EndsShut, NotBegunSaved, RefusesMark, StaysLocked, StaysShut}
-use Rattle.ob_headline.specs.declared.ending.Ending.TheVariants.{Ran}
-use Rattle.ob_headline.specs.declared.ending.KeptEnding.{KeptEnding}
-use Rattle.ob_headline.specs.declared.ending.KeptEnding.TheVariants.{Plain, OtherPack}
-use Rattle.ob_reopen.specs.Keepers.{KeeperState}
-use Rattle.ob_reopen.specs.declared.closing.Closing.{Closing}
-use Rattle.ob_reopen.specs.declared.fault.CloseErr.{CloseErr}
 use Rattle.ob_reopen.specs.declared.fault.CloseErr.TheVariants as CloseErrs
 use Rattle.ob_reopen.specs.declared.fault.OpenErr.{OpenErr}
 use Rattle.ob_reopen.specs.declared.fault.OpenErr.TheVariants as OpenErrs
-use Rattle.ob_seal.specs.KeySet.{KeySet}
-use Rattle.ob_store.specs.State.{StoreState}
 
 -- ---- how a run ends that may be closed
 -- where its tables can't be opened, or closed, it doesn't come to its end

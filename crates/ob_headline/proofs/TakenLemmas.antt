@@ -1,11 +1,8 @@
 -- What a sink took of answers of which it took a first part.
-use Rattle.std.proofs.Common.{◌≡◌, ◌≤◌, ◌<◌, ◌++◌, inl, inr, ℕ, List, [], ◌∷◌, length, take, drop, Option, refl, sym, ◌∙◌, ap, subst, append-nil, append_assoc, length-append, take-append-drop, arith}
-use Rattle.std.proofs.lemmas.Bool.{cases_lt}
-use Rattle.std.proofs.lemmas.List.{take-append-le}
+use Rattle.ob_headline.proofs.Words.{Answer, ap, append-nil, append_assoc, arith, cases_lt, drop, inl, inr, length, length-append, List, Option, Outputs, refl, subst, sym, take, take-append-drop, take-append-le, ℕ, [], ◌++◌, ◌<◌, ◌∙◌, ◌∷◌, ◌≡◌, ◌≤◌}
 use Rattle.std.proofs.Math.Seq.{take-append_seam}
 use Rattle.std.specs.Io.KnownBytes.{Appends}
-use Rattle.ob_headline.specs.Words.{Answer, Took, printed}
-use Rattle.ob_print.specs.Cuts.{Outputs}
+use Rattle.ob_headline.specs.Words.{Took, printed}
 
 -- behind the answers that it took whole it took these bytes, or a part of the next answer, for this cause
 abbrev pub LosesSo : (written0 written1 : Option (List ℕ)) → (Lost : Type 0) → (kept lost : List Answer) → (bytes : List ℕ) → Type 0

@@ -1,5 +1,5 @@
 -- Bytes that are cut in two parts, one after the other.
-use Rattle.std.proofs.Common.{◌≡◌, ℕ, true, List, [], ◌∷◌, ◌++◌, refl, sym, ap, ◌∙◌, append_assoc}
+use Rattle.ob_headline.proofs.Words.{ap, append_assoc, List, refl, sym, true, ℕ, [], ◌++◌, ◌∙◌, ◌∷◌, ◌≡◌}
 use Rattle.ob_headline.specs.Texts.{is_over, rest_after, texts_at, rest_of, texts_of}
 
 pub rest_of-append : (rest xs ys : List ℕ) → rest_of rest (xs ++ ys) ≡ rest_of (rest_of rest xs) ys

@@ -1,13 +1,7 @@
 -- What is seen of INSERTs that are served together, by the laws of what runs ask, computed.
-use Rattle.std.specs.Prelude.{Err, None, Ok, Some, map}
-use Rattle.std.proofs.Common.{◌≡◌, ℕ, List, [], ◌∷◌, Option, refl}
+use Rattle.ob_headline.proofs.Words.{End, Err, Joined, List, map, None, Ok, Option, Public, refl, Served, Some, Spelt, Static, Whole, ℕ, [], ◌∷◌, ◌≡◌}
 use Rattle.ob_base.specs.Accesses.{makes}
-use Rattle.ob_base.specs.declared.config.Public.{Public}
-use Rattle.ob_base.specs.declared.seen.End.{End}
-use Rattle.ob_base.specs.declared.seen.End.TheVariants.{Static, Whole, Joined}
 use Rattle.ob_headline.specs.Reruns.{shown_plainly, stated, stated_in}
-use Rattle.ob_mean.specs.Replay.{Spelt}
-use Rattle.ob_script.specs.Trace.{Served}
 use Rattle.ob_sql.specs.declared.stmt.Stmt.TheVariants.{Insert}
 use Rattle.ob_verdict.proofs.Sessions.{by_four, create_t, insert, int, t}
 

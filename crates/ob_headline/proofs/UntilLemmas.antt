@@ -1,9 +1,7 @@
 -- How many accesses a flight had asked when one of its statements had ended.
-use Rattle.std.specs.Prelude.{if◌then◌else◌, slice_get, slice_set}
-use Rattle.std.specs.Option.{option_map_or}
-use Rattle.std.proofs.Common.{◌≡◌, ◌≤◌, ◌<◌, inl, inr, ℕ, zero, suc, Bool, true, false, length, Option, Some, None, refl, sym, ◌∙◌, ap, subst, arith}
-use Rattle.std.proofs.lemmas.Bool.{cases_eq, cases_lt}
-use Rattle.ob_base.specs.declared.access.Access.{Access}
+use Rattle.ob_headline.proofs.Words.{Access, ap, arith, Bool, cases_lt, false, if◌then◌else◌, inl, inr, length, None, Option, option_map_or, refl, slice_get, Some, subst, suc, sym, true, zero, ℕ, ◌<◌, ◌∙◌, ◌≡◌, ◌≤◌}
+use Rattle.std.specs.Prelude.{slice_set}
+use Rattle.std.proofs.lemmas.Bool.{cases_eq}
 use Rattle.ob_headline.specs.Flights.{asked_until, has_ended}
 use Rattle.ob_script.proofs.FlightLemmas.{logs_grow}
 use Rattle.ob_script.proofs.ListPlaces.{get_set_other, get_set_same}
