@@ -3,8 +3,8 @@ ghost use Rattle.std.specs.Prelude.{◌≡◌, codes, map, OnOk};
 ghost use Rattle.std.specs.Io.KnownBytes.{Appends};
 ghost use Rattle.ob_file.specs.Complaints.{plain};
 
-use crate::mark::put;
 use ob_base::Failed;
+use ob_mark::put;
 use std::io::{Error, ErrorKind, Write};
 
 /// A place, and what isn't right there. A place that there was no memory for is empty.

@@ -2,10 +2,10 @@
 ghost use Rattle.std.specs.Prelude.{◌≡◌, ◌≢◌, ◌<◌, ◌^◌, ◌++◌, ◌||◌, ℕ, codes, decimal, IfSome, Some, not, true};
 ghost use Rattle.ob_file.specs.Names.{is_passed};
 
-use crate::mark::number_of;
 use crate::region::open_file;
 use itoa::Buffer;
 use ob_base::NoMemory;
+use ob_mark::number_of;
 use std::alloc::Global;
 use std::fs::{File, OpenFile, remove_file, symlink_metadata};
 use std::io::{Error, ErrorKind, Read};

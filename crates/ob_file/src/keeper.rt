@@ -4,10 +4,10 @@ ghost use Rattle.ob_reopen.specs.Keepers.{AreSaltBytes, IsMark};
 
 use crate::complaint::Complaint;
 use crate::folder::{RegionFiles, settle, split_path};
-use crate::identity::{Held, goes_with, held_of, spell_held};
 use crate::region::clear;
 use crate::text::{LONG, read_text, rename, write_text};
 use ob_base::{Failed, NoMemory};
+use ob_mark::{Held, goes_with, held_of, spell_held};
 use ob_reopen::{Keeper, Mark, Salts};
 use std::alloc::Global;
 use std::io;

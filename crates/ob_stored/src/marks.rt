@@ -1,6 +1,7 @@
 //! Lines of marks, and names of regions' files.
 use crate::bytes::{put, spelled_by};
-use ob_file::{mark_of, region_in, spell};
+use ob_file::region_in;
+use ob_mark::{mark_of, spell};
 use ob_reopen::Mark;
 use std::alloc::{AllocError, Global};
 

@@ -5,10 +5,11 @@
 
 mod start;
 
-use ob_file::{Complaint, FileKeeper, FileStore, StartErr};
+use ob_file::{Complaint, FileKeeper, FileStore};
 use ob_help::{Program, told};
 use ob_io::{StdSink, StdSource};
 use ob_shell::save_top;
+use ob_start::StartErr;
 use start::{Begun, Holds, begin, hold_streams, words};
 use std::io;
 use std::io::{Error, Write};

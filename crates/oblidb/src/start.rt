@@ -1,10 +1,11 @@
 //! What a run begins with.
 
-use ob_file::{
-    Complaint, KeptStore, SavedStore, Scratch, StartErr, begin_kept, begin_saved, begin_scratch,
-    follow, mark_beside, may_be_named, regions_in, unslashed,
-};
+use ob_file::Complaint;
 use ob_help::wrong_word;
+use ob_start::{
+    KeptStore, SavedStore, Scratch, StartErr, begin_kept, begin_saved, begin_scratch, follow,
+    mark_beside, may_be_named, regions_in, unslashed,
+};
 use ob_words::{SavedWords, WordsErr, mark_place, read_saved_words, store_name};
 use std::env;
 use std::fs::{File, OpenFile};

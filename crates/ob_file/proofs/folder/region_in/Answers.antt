@@ -1,7 +1,8 @@
 use Rattle.std.proofs.Common.{◌≡◌, ◌∙◌, ◌∷◌, ◌++◌, ℕ, List, [], IsUtf8, ap, decimal, drop, subst, sym}
 use Rattle.std.proofs.lemmas.Bool.{both_ways}
-use Rattle.ob_file.proofs.FolderLemmas.{before, is_first, rest_is, some_more, stripped}
-use Rattle.ob_file.proofs.MarkLemmas.{accepted, never_refused, utf8_number}
+use Rattle.ob_mark.proofs.FirstParts.{is_first, rest_is, stripped}
+use Rattle.ob_mark.proofs.MarkLemmas.{accepted, never_refused, utf8_number}
+use Rattle.ob_file.proofs.FolderLemmas.{before, some_more}
 use Rattle.ob_file.proofs.folder.region_in.Goals as goal
 
 pub returns-in_err-rest-clause-found : goal.returns-in_err-rest-clause-found

@@ -1,0 +1,4 @@
+mod Appending
+pub mod MarkLemmas
+pub mod FirstParts
+mod HeldLemmas
