@@ -1,1 +1,3 @@
 mod FolderLemmas
+mod KeepingLemmas
+mod PathLemmas

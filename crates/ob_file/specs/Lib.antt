@@ -1,3 +1,5 @@
 pub mod Regions
 pub mod Names
+pub mod Paths
 pub mod Complaints
+pub mod Keeping

@@ -1,17 +1,25 @@
 //! What isn't right, and where.
-ghost use Rattle.std.specs.Prelude.{◌≡◌, codes, map, OnOk};
+ghost use Rattle.std.specs.Prelude.{◌≡◌, ◌++◌, ℕ, List, codes, map, OnOk, string_bytes};
 ghost use Rattle.std.specs.Io.KnownBytes.{Appends};
-ghost use Rattle.ob_file.specs.Complaints.{plain};
+ghost use Rattle.ob_file.specs.Complaints.{SaidOf, plain, whole};
 
 use ob_base::Failed;
 use ob_mark::put;
+use std::alloc::AllocError;
 use std::io::{Error, ErrorKind, Write};
+use std::marker::Model;
 
 /// A place, and what isn't right there. A place that there was no memory for is empty.
 #[derive(Drop)]
 pub struct Complaint {
     place: String,
     reason: Error,
+}
+
+impl Model for Complaint {
+    ghost Value = { List ℕ };
+
+    ghost view = { λ c. string_bytes c.place };
 }
 
 // The byte that is printed of one in a path: a line is to stay one.
@@ -35,9 +43,25 @@ fn put_plain<W: Write>(out: &mut W, text: &[u8]) -> Result<(), Failed>
     }
 }
 
+// Adds these parts to a text.
+fn push_all(text: &mut String, parts: &[&str]) -> Result<(), AllocError>
+    ensures { OnOk result
+        (string_bytes text.new ≡ string_bytes text.old ++ whole parts.now) }
+{
+    match parts.split_first() {
+        None => Ok(()),
+        Some((first, parts)) => {
+            text.push_str(first)?;
+            push_all(text, parts)
+        }
+    }
+}
+
 impl Complaint {
     /// One of nothing. The place takes its memory where this one does.
-    pub fn new(place: String) -> Complaint {
+    pub fn new(place: String) -> Complaint
+        ensures { result ≡ string_bytes place }
+    {
         Complaint {
             place,
             reason: Error::from(ErrorKind::Other),
@@ -45,13 +69,12 @@ impl Complaint {
     }
 
     /// Says this of the place whose path consists of these parts.
-    pub fn say(&mut self, place: &[&str], reason: Error) {
+    pub fn say(&mut self, place: &[&str], reason: Error)
+        ensures { SaidOf (whole place.now) self.new }
+    {
         self.place.clear();
-        for part in place {
-            if self.place.push_str(part).is_err() {
-                self.place.clear();
-                break;
-            }
+        if push_all(&mut self.place, place).is_err() {
+            self.place.clear();
         }
         self.reason = reason;
     }

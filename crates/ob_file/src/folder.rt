@@ -1,6 +1,7 @@
 //! The files of a store's regions, as they lie in their folder.
 ghost use Rattle.std.specs.Prelude.{◌≡◌, ◌≢◌, ◌<◌, ◌^◌, ◌++◌, ◌||◌, ℕ, codes, decimal, IfSome, Some, not, true};
 ghost use Rattle.ob_file.specs.Names.{is_passed};
+ghost use Rattle.ob_file.specs.Paths.{folder_part, last_part};
 
 use crate::region::open_file;
 use itoa::Buffer;
@@ -51,7 +52,10 @@ fn settle_file<R: Files>(files: &R, path: &str) -> io::Result<()> {
 }
 
 /// The folder of a file, with the slash behind it, and its name there.
-pub fn split_path(path: &str) -> (&str, &str) {
+pub fn split_path(path: &str) -> (&str, &str)
+    ensures folder { result.0.now ≡ folder_part path.now }
+    ensures name { result.1.now ≡ last_part path.now }
+{
     match path.rfind('/') {
         Some(slash) => path.split_at(slash + 1),
         None => ("./", path),

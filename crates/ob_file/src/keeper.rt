@@ -1,6 +1,9 @@
 //! The mark of a store, in a file.
-ghost use Rattle.std.specs.Prelude.{◌≡◌, Err, IfOk, MatchResult, None, Ok, length};
-ghost use Rattle.ob_reopen.specs.Keepers.{AreSaltBytes, IsMark};
+ghost use Rattle.std.specs.Prelude.{◌≡◌, [], Err, IfOk, MatchResult, Ok, OnOk, length, vec_items};
+ghost use Rattle.ob_reopen.specs.Keepers.{AreSaltBytes, GivesMark, IsMark, SetsMark};
+ghost use Rattle.ob_reopen.specs.declared.mark.Mark.{Mark as HeldMark};
+ghost use Rattle.ob_mark.specs.Marks.{held_text};
+ghost use Rattle.ob_file.specs.Keeping.{FileKept, Stands, left_text, untold};
 
 use crate::complaint::Complaint;
 use crate::folder::{RegionFiles, settle, split_path};
@@ -12,6 +15,7 @@ use ob_reopen::{Keeper, Mark, Salts};
 use std::alloc::Global;
 use std::io;
 use std::io::{Error, ErrorKind};
+use std::marker::Model;
 use std::mem::swap;
 use std::random::RandomSource;
 use std::rt::Files;
@@ -51,6 +55,12 @@ pub struct FileKeeper<'a, R: Files> {
     trouble: Option<(Part, Error)>,
     // the mark that was told last
     told: Option<Mark>,
+}
+
+impl<'a, R: Files> Model for FileKeeper<'a, R> {
+    ghost Value = { FileKept };
+
+    ghost view = { λ k. record { id = k.id; left = vec_items k.left; faults = k.faults } };
 }
 
 // A salt of these bytes.
@@ -99,6 +109,50 @@ fn at<T>(part: Part, given: io::Result<T>) -> Result<T, (Part, Error)>
     }
 }
 
+// The mark that a text has which was read of its file, where the store has this identity.
+fn mark_in(text: &[u8], id: Option<[u8; 16]>) -> io::Result<Mark>
+    ensures within { IfOk result IsMark }
+    ensures spelt { IfOk result (Stands text.now id) }
+    ensures read { (mark : HeldMark) → Stands text.now id mark → result ≡ Ok mark }
+{
+    if text.is_empty() {
+        return Ok(Mark::Fresh);
+    }
+    match held_of(text) {
+        None => Err(Error::other("it is no mark of this version")),
+        Some(held) => {
+            if goes_with(&held, id) {
+                Ok(held.mark)
+            } else {
+                Err(Error::other("it is the mark of another store"))
+            }
+        }
+    }
+}
+
+// Looks whether a text is as it was left.
+fn compare(text: &[u8], left: &[u8]) -> io::Result<()>
+    ensures same { OnOk result (text.now ≡ left.now) }
+    ensures ok { text.now ≡ left.now → result ≡ Ok tt }
+{
+    if text == left {
+        Ok(())
+    } else {
+        Err(Error::other("another run has changed it"))
+    }
+}
+
+// Makes a text that of a mark.
+fn put_held(text: &mut Vec<u8>, held: &Held) -> io::Result<()>
+    ensures { OnOk result (vec_items text.new ≡ held_text held.now) }
+{
+    text.clear();
+    match spell_held(text, held) {
+        Ok(()) => Ok(()),
+        Err(_) => Err(Error::from(ErrorKind::OutOfMemory)),
+    }
+}
+
 impl<'a, R: Files> FileKeeper<'a, R> {
     /// The keeper of a store whose regions' files have names that begin with this one and a dot, with its mark in the file
     /// of this path. The mark names the store where it has an identity. It takes all its memory of `alloc` here.
@@ -109,7 +163,7 @@ impl<'a, R: Files> FileKeeper<'a, R> {
         path: String,
         id: Option<[u8; 16]>,
     ) -> Result<FileKeeper<'a, R>, NoMemory>
-        ensures { IfOk result (λ k. (⟦<FileKeeper<'a, R> as Keeper>⟧.state k).faults ≡ 0) }
+        ensures { IfOk result (λ k. k ≡ record { id = id; left = []; faults = 0 }) }
     {
         let regions = RegionFiles::new(alloc, files, name)?;
         let Ok(folder) = String::from_str(alloc, split_path(path.as_str()).0) else {
@@ -177,29 +231,12 @@ impl<'a, R: Files> FileKeeper<'a, R> {
         complaint.say(&[place], Error::other(reason));
     }
 
-    // The mark that the text has which was read.
-    fn mark_read(&self) -> io::Result<Mark>
-        ensures { IfOk result IsMark }
-    {
-        if self.left.is_empty() {
-            return Ok(Mark::Fresh);
-        }
-        match held_of(&self.left) {
-            None => Err(Error::other("it is no mark of this version")),
-            Some(held) => {
-                if goes_with(&held, self.id) {
-                    Ok(held.mark)
-                } else {
-                    Err(Error::other("it is the mark of another store"))
-                }
-            }
-        }
-    }
-
     // The mark that the file spells. What is done by a mark is not to outlive it: a run that was killed may have left its
     // name in memory alone.
     fn held(&mut self) -> Result<Mark, (Part, Error)>
-        ensures mark { IfOk result IsMark }
+        ensures within { IfOk result IsMark }
+        ensures spelt { IfOk result (Stands self.new.left self.new.id) }
+        ensures id { self.new.id ≡ self.old.id }
         ensures faults { self.new.faults ≡ self.old.faults }
     {
         at(Part::Folder, settle(self.files, self.folder.as_str()))?;
@@ -207,62 +244,52 @@ impl<'a, R: Files> FileKeeper<'a, R> {
             Part::Mark,
             read_text(self.files, self.path.as_str(), &mut self.left),
         )?;
-        at(Part::Mark, self.mark_read())
+        at(Part::Mark, mark_in(&self.left, self.id))
     }
 
     // Looks whether the file is as it was left.
-    fn compare(&mut self) -> io::Result<()>
-        ensures { self.new.faults ≡ self.old.faults }
+    fn check(&mut self) -> io::Result<()>
+        ensures { self.new ≡ self.old }
     {
         read_text(self.files, self.path.as_str(), &mut self.seen)?;
-        if self.seen.as_slice() == self.left.as_slice() {
-            Ok(())
-        } else {
-            Err(Error::other("another run has changed it"))
-        }
+        compare(&self.seen, &self.left)
     }
 
-    // Puts what was written beside in the file's place, if that is as it was left, and looks whether it is there: where two
-    // runs do so at once, what lies beside is that of the last one.
-    fn take_place(&mut self) -> io::Result<()>
-        ensures { self.new.faults ≡ self.old.faults }
+    // Puts a text in the place of the file's, if that is as it was left, and looks whether it is there: where two runs do so
+    // at once, what lies beside is that of the last one.
+    fn replace(&mut self, mark: &Mark) -> Result<(), (Part, Error)>
+        ensures left { OnOk result
+            (self.new.left ≡ held_text (record { mark = mark.now; id = self.old.id })) }
+        ensures id { self.new.id ≡ self.old.id }
+        ensures faults { self.new.faults ≡ self.old.faults }
     {
-        self.compare()?;
-        rename(self.files, self.beside.as_str(), self.path.as_str())?;
-        swap(&mut self.left, &mut self.text);
-        self.compare()
-    }
-
-    // Writes another text beside the file's.
-    fn write(&mut self, mark: &Mark) -> io::Result<()>
-        ensures { self.new.faults ≡ self.old.faults }
-    {
-        self.text.clear();
+        at(Part::Mark, self.check())?;
         let held = Held {
             mark: *mark,
             id: self.id,
         };
-        if spell_held(&mut self.text, &held).is_err() {
-            return Err(Error::from(ErrorKind::OutOfMemory));
-        }
-        write_text(self.files, self.beside.as_str(), &self.text)
-    }
-
-    // Puts a text in the place of the file's.
-    fn replace(&mut self, mark: &Mark) -> Result<(), (Part, Error)>
-        ensures { self.new.faults ≡ self.old.faults }
-    {
-        at(Part::Mark, self.compare())?;
-        at(Part::Beside, self.write(mark))?;
-        at(Part::Mark, self.take_place())?;
+        at(Part::Beside, put_held(&mut self.text, &held))?;
+        at(
+            Part::Beside,
+            write_text(self.files, self.beside.as_str(), &self.text),
+        )?;
+        at(Part::Mark, self.check())?;
+        at(
+            Part::Mark,
+            rename(self.files, self.beside.as_str(), self.path.as_str()),
+        )?;
+        swap(&mut self.left, &mut self.text);
+        at(Part::Mark, self.check())?;
         at(Part::Folder, settle(self.files, self.folder.as_str()))
     }
 
     // Takes the file away, if there is one.
     fn remove(&mut self) -> Result<(), (Part, Error)>
-        ensures { self.new.faults ≡ self.old.faults }
+        ensures left { OnOk result (self.new.left ≡ []) }
+        ensures id { self.new.id ≡ self.old.id }
+        ensures faults { self.new.faults ≡ self.old.faults }
     {
-        at(Part::Mark, self.compare())?;
+        at(Part::Mark, self.check())?;
         at(Part::Mark, clear(self.files, self.path.as_str()))?;
         self.left.clear();
         at(Part::Folder, settle(self.files, self.folder.as_str()))
@@ -270,7 +297,9 @@ impl<'a, R: Files> FileKeeper<'a, R> {
 
     // Holds another mark from now on.
     fn hold(&mut self, mark: &Mark) -> Result<(), (Part, Error)>
-        ensures { self.new.faults ≡ self.old.faults }
+        ensures left { OnOk result (self.new.left ≡ left_text mark.now self.old.id) }
+        ensures id { self.new.id ≡ self.old.id }
+        ensures faults { self.new.faults ≡ self.old.faults }
     {
         match mark {
             Mark::Fresh => self.remove(),
@@ -284,9 +313,13 @@ impl<'a, R: Files> FileKeeper<'a, R> {
 }
 
 impl<'a, R: Files> Keeper for FileKeeper<'a, R> {
-    ghost state = { λ k. record { held = None; faults = k.faults } };
+    ghost state = { untold };
 
-    fn mark(&mut self) -> Result<Mark, Failed> {
+    fn mark(&mut self) -> Result<Mark, Failed>
+        ensures gives { GivesMark result (untold self.old) (untold self.new) }
+        ensures spelt { IfOk result (Stands self.new.left self.new.id) }
+        ensures id { self.new.id ≡ self.old.id }
+    {
         match self.held() {
             Ok(mark) => {
                 self.told = Some(mark);
@@ -300,7 +333,11 @@ impl<'a, R: Files> Keeper for FileKeeper<'a, R> {
         }
     }
 
-    fn set(&mut self, mark: &Mark) -> Result<(), Failed> {
+    fn set(&mut self, mark: &Mark) -> Result<(), Failed>
+        ensures sets { SetsMark mark.now result (untold self.old) (untold self.new) }
+        ensures left { OnOk result (self.new.left ≡ left_text mark.now self.old.id) }
+        ensures id { self.new.id ≡ self.old.id }
+    {
         match self.hold(mark) {
             Ok(()) => Ok(()),
             Err(unset) => {

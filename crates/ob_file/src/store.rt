@@ -105,7 +105,10 @@ impl<'a, R: Files> FileStore<'a, R> {
     pub fn new(alloc: Global, files: &'a R, name: String, replaces: bool) -> FileStore<'a, R>
     where
         R::File: FileExt,
-        ensures { (⟦<FileStore<'a, R> as BlockStore>⟧.state result).asked ≡ [] }
+        ensures asked { (⟦<FileStore<'a, R> as BlockStore>⟧.state result).asked ≡ [] }
+        ensures faults { (⟦<FileStore<'a, R> as BlockStore>⟧.state result).faults ≡ 0 }
+        ensures slips { (⟦<FileStore<'a, R> as BlockStore>⟧.state result).slips ≡ 0 }
+        ensures given_up { ⟦<FileStore<'a, R> as BlockStore>⟧.given_up result ≡ None }
     {
         FileStore {
             alloc,

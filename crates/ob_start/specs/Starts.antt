@@ -1,5 +1,12 @@
 -- How a run ends before anything is read.
-use Rattle.std.specs.Prelude.{ℕ, Bool, true, false, ◌&&◌, not, if◌then◌else◌, List, Option, None, Some, bytes_eq, codes}
+use Rattle.std.specs.Prelude.{◌≡◌, ◌≢◌, ℕ, Bool, true, false, ◌&&◌, not, if◌then◌else◌, List, [], Option, None, Some, bytes_eq, codes}
+use Rattle.std.specs.declared.io.ErrorKind.{ErrorKind}
+use Rattle.std.specs.declared.io.ErrorKind.TheVariants.{OutOfMemory}
+use Rattle.ob_reopen.specs.Keepers.{AreSaltBytes}
+use Rattle.ob_reopen.specs.declared.mark.Mark.{Mark}
+use Rattle.ob_mark.specs.Marks.{HoldsMark, id_text, not_id}
+use Rattle.ob_mark.specs.declared.identity.NotId.{NotId}
+use Rattle.ob_mark.specs.declared.identity.NotId.TheVariants.{Malformed, OtherVersion as OtherForm}
 use Rattle.ob_start.specs.declared.start.StartErr.{StartErr}
 use Rattle.ob_start.specs.declared.start.StartErr.TheVariants.{Usage, Kept, NoMemory, AtWork, NoMark, NoStore, OtherStore, Version, Failed}
 use Rattle.ob_start.specs.declared.start.FoundStore.{FoundStore}
@@ -31,6 +38,28 @@ start_line NoStore = codes "! no store\n"
 start_line OtherStore = codes "! other store\n"
 start_line Version = codes "! version\n"
 start_line Failed = codes "! keeper fault\n"
+
+-- how a run ends at which a call failed
+abbrev pub failure : ErrorKind → StartErr
+failure OutOfMemory = NoMemory
+failure kind = Failed
+
+-- ---- what is found
+abbrev pub no_store : NotId → FoundStore
+no_store OtherForm = OtherVersion
+no_store Malformed = Foreign
+
+-- what a folder is by the text of its identity, and by the names in it
+pub record FindsStore (text : List ℕ) (others regions : Bool) (found : FoundStore) : Type 0 where
+  pub bare : text ≡ [] → found ≡ (if others then Foreign else Bare)
+  pub store : (id : List ℕ) → AreSaltBytes id → text ≡ id_text id → found ≡ Store id regions
+  pub other : text ≢ [] → ((id : List ℕ) → AreSaltBytes id → text ≢ id_text id) → found ≡ no_store (not_id text)
+
+-- what lies at the place of a mark, by its text
+abbrev pub FindsMark : List ℕ → FoundMark → Type 0
+FindsMark text Unmarked = text ≡ []
+FindsMark text NoMarkOfOne = (text ≢ []) × ((mark : Mark) (id : List ℕ) → ¬ (HoldsMark text (record { mark = mark; id = Some id })))
+FindsMark text (Of id) = (mark : Mark) × HoldsMark text (record { mark = mark; id = Some id })
 
 -- ---- runs that save their tables
 

@@ -1,4 +1,7 @@
 //! How a run begins that keeps its tables.
+ghost use Rattle.std.specs.Prelude.{◌≡◌, IfOk, true};
+ghost use Rattle.ob_start.specs.Places.{MayClash, may_be_named};
+
 use crate::locks::lock;
 use crate::place::{lies_beside, may_be_placed, with_ending};
 use crate::start::{StartErr, fail, keep_refusal, refuse};
@@ -51,7 +54,10 @@ pub fn begin_kept<R: Files<File = File>>(
     name: &str,
     place: &str,
     said: &mut Complaint,
-) -> Result<KeptStore, StartErr> {
+) -> Result<KeptStore, StartErr>
+    ensures named { IfOk result (λ _. may_be_named place.now ≡ true) }
+    ensures beside { IfOk result (λ _. ¬ (MayClash name.now place.now)) }
+{
     may_be_placed(place, said)?;
     lies_beside(name, place, said)?;
     let marks = with_ending(alloc, place, ".lock")?;

@@ -1,6 +1,7 @@
 //! Where a store lies, and its mark.
-ghost use Rattle.std.specs.Prelude.{◌≡◌, ◌++◌, IfOk, codes, string_bytes};
-ghost use Rattle.ob_start.specs.Places.{is_inside, is_name, is_within};
+ghost use Rattle.std.specs.Prelude.{◌≡◌, ◌⊎◌, ◌++◌, Err, IfErr, IfOk, OnOk, codes, string_bytes, true};
+ghost use Rattle.ob_start.specs.Places.{MayClash, is_inside, is_name, is_within, may_be_named, or_usage, unslashed};
+ghost use Rattle.ob_start.specs.declared.start.StartErr.TheVariants.{NoMemory as WantsMemory, Usage as IsUsage};
 
 use crate::start::{StartErr, fail};
 use ob_base::NoMemory;
@@ -61,7 +62,9 @@ pub fn is_inside(path: &str, folder: &str) -> bool
 }
 
 /// A name without the slashes at its end.
-pub fn unslashed(name: &str) -> &str {
+pub fn unslashed(name: &str) -> &str
+    ensures { result.now ≡ unslashed name.now }
+{
     name.trim_end_matches('/')
 }
 
@@ -109,13 +112,17 @@ fn plain_path<R: Files>(alloc: Global, files: &R, path: &str) -> Result<Option<S
 }
 
 // Says that the path of a word is none that the program takes.
-fn no_path(said: &mut Complaint, word: &str, path: &str, reason: &str) -> StartErr {
+fn no_path(said: &mut Complaint, word: &str, path: &str, reason: &str) -> StartErr
+    ensures { result ≡ IsUsage }
+{
     said.say(&[word, " ", path], Error::other(reason));
     StartErr::Usage
 }
 
 /// Looks whether a store can have this name: `Usage` where it can't.
-pub fn may_be_named(name: &str, said: &mut Complaint) -> Result<(), StartErr> {
+pub fn may_be_named(name: &str, said: &mut Complaint) -> Result<(), StartErr>
+    ensures { result ≡ or_usage (may_be_named name.now) }
+{
     if is_name(split_path(name).1) {
         Ok(())
     } else {
@@ -124,7 +131,9 @@ pub fn may_be_named(name: &str, said: &mut Complaint) -> Result<(), StartErr> {
 }
 
 /// Looks whether a mark can lie at this place: `Usage` where it can't.
-pub fn may_be_placed(place: &str, said: &mut Complaint) -> Result<(), StartErr> {
+pub fn may_be_placed(place: &str, said: &mut Complaint) -> Result<(), StartErr>
+    ensures { result ≡ or_usage (may_be_named place.now) }
+{
     if is_name(split_path(place).1) {
         Ok(())
     } else {
@@ -140,7 +149,10 @@ pub fn lies_apart<R: Files>(
     name: &str,
     place: &str,
     said: &mut Complaint,
-) -> Result<(), StartErr> {
+) -> Result<(), StartErr>
+    ensures inside { is_inside place.now name.now ≡ true → result ≡ Err IsUsage }
+    ensures refused { IfErr result (λ e. (e ≡ IsUsage) ⊎ (e ≡ WantsMemory)) }
+{
     let is_in = if is_inside(place, name) {
         true
     } else {
@@ -164,7 +176,10 @@ pub fn lies_apart<R: Files>(
 }
 
 /// The same of a store of files: `Usage` where the place of its mark has the store's own name, or that of a region.
-pub fn lies_beside(name: &str, place: &str, said: &mut Complaint) -> Result<(), StartErr> {
+pub fn lies_beside(name: &str, place: &str, said: &mut Complaint) -> Result<(), StartErr>
+    ensures beside { OnOk result (¬ (MayClash name.now place.now)) }
+    ensures refused { IfErr result (λ e. (e ≡ IsUsage) × MayClash name.now place.now) }
+{
     if place == name || region_in(split_path(place).1.as_bytes(), split_path(name).1).is_some() {
         Err(no_path(
             said,

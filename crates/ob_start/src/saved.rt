@@ -1,12 +1,20 @@
 //! The folder of a store, and how a run begins that saves its tables in it.
+ghost use Rattle.std.specs.Prelude.{◌≡◌, ℕ, Bool, List, IfOk, None, Ok, true, false};
+ghost use Rattle.ob_start.specs.Places.{is_inside, may_be_named};
+ghost use Rattle.ob_start.specs.Starts.{save_refusal};
+ghost use Rattle.ob_start.specs.declared.start.FoundMark.{FoundMark as LiesThere};
+ghost use Rattle.ob_start.specs.declared.start.FoundStore.TheVariants.{Store as IsStore};
+
 use crate::locks::lock;
 use crate::place::{lies_apart, may_be_placed, with_ending};
-use crate::start::{FoundMark, FoundStore, StartErr, fail, refuse, save_refusal};
+use crate::start::{
+    FoundMark, FoundStore, StartErr, fail, mark_found, refuse, save_refusal, store_found,
+};
 use ob_base::NoMemory;
 use ob_file::{
     Complaint, LONG, drawn, names_in, read_text, rename, settle, split_path, write_text,
 };
-use ob_mark::{Held, NotId, held_of, id_of, spell_id};
+use ob_mark::spell_id;
 use std::alloc::Global;
 use std::fs::{DirBuilder, File, symlink_metadata};
 use std::io;
@@ -59,21 +67,7 @@ impl Folder {
     // What is in a folder without an identity, or with this text as one.
     fn inner<R: Files>(&self, files: &R) -> io::Result<FoundStore> {
         let names = names_in(files, self.inside.as_str(), "r")?;
-        if self.text.is_empty() {
-            return Ok(if names.others {
-                FoundStore::Foreign
-            } else {
-                FoundStore::Bare
-            });
-        }
-        Ok(match id_of(&self.text) {
-            Ok(id) => FoundStore::Store {
-                id,
-                regions: names.regions,
-            },
-            Err(NotId::OtherVersion) => FoundStore::OtherVersion,
-            Err(NotId::Malformed) => FoundStore::Foreign,
-        })
+        Ok(store_found(&self.text, names))
     }
 
     // What has the name of the store.
@@ -102,17 +96,13 @@ impl Folder {
         if let Err(error) = read_text(files, self.place.as_str(), &mut self.text) {
             return Err(fail(said, self.place.as_str(), error));
         }
-        if self.text.is_empty() {
-            return Ok(FoundMark::Nothing);
-        }
-        match held_of(&self.text) {
-            Some(Held { id: Some(id), .. }) => Ok(FoundMark::Of(id)),
-            _ => Ok(FoundMark::Other),
-        }
+        Ok(mark_found(&self.text))
     }
 
     // Says why a run may not save its tables here.
-    fn refused(&self, error: StartErr, said: &mut Complaint) -> StartErr {
+    fn refused(&self, error: StartErr, said: &mut Complaint) -> StartErr
+        ensures { result ≡ error }
+    {
         match error {
             StartErr::Failed if is_one_line(&self.text) => {
                 let reason = Error::other("it has one line: it is of an older form, or of --keep");
@@ -129,7 +119,9 @@ impl Folder {
     }
 
     // Looks whether a run may save its tables here, and what it finds.
-    fn look<R: Files>(&mut self, files: &R, said: &mut Complaint) -> Result<FoundStore, StartErr> {
+    fn look<R: Files>(&mut self, files: &R, said: &mut Complaint) -> Result<FoundStore, StartErr>
+        ensures { IfOk result (λ store. (mark : LiesThere) × (save_refusal store mark ≡ None)) }
+    {
         let store = self.found(files, said)?;
         let mark = self.found_mark(files, said)?;
         match save_refusal(store, mark) {
@@ -183,7 +175,9 @@ impl Folder {
         files: &R,
         found: FoundStore,
         said: &mut Complaint,
-    ) -> Result<[u8; 16], StartErr> {
+    ) -> Result<[u8; 16], StartErr>
+        ensures { (id : List ℕ) (regions : Bool) → found ≡ IsStore id regions → result ≡ Ok id }
+    {
         if let FoundStore::Store { id, .. } = found {
             return Ok(id);
         }
@@ -226,7 +220,10 @@ pub fn begin_saved<R: Files<File = File> + RandomSource>(
     name: &str,
     place: &str,
     said: &mut Complaint,
-) -> Result<SavedStore, StartErr> {
+) -> Result<SavedStore, StartErr>
+    ensures named { IfOk result (λ _. may_be_named place.now ≡ true) }
+    ensures apart { IfOk result (λ _. is_inside place.now name.now ≡ false) }
+{
     may_be_placed(place, said)?;
     lies_apart(alloc, files, name, place, said)?;
     let path = with_ending(alloc, place, ".lock")?;

@@ -1,10 +1,14 @@
 //! How a run ends before anything is read, and what is found before it begins.
 ghost use Rattle.std.specs.Prelude.{◌≡◌};
-ghost use Rattle.ob_start.specs.Starts.{anew_refusal, keep_refusal, marked_refusal, save_refusal, start_line, start_status, unmarked_refusal};
+ghost use Rattle.std.specs.IoError.{error_kind};
+ghost use Rattle.ob_file.specs.Complaints.{SaidOf};
+ghost use Rattle.ob_start.specs.Starts.{FindsMark, FindsStore, anew_refusal, failure, keep_refusal, marked_refusal};
+ghost use Rattle.ob_start.specs.Starts.{save_refusal, start_line, start_status, unmarked_refusal};
 ghost use Rattle.ob_start.specs.declared.start.StartErr.TheVariants.{NoMemory as WantsMemory};
 
 use ob_base::NoMemory;
-use ob_file::Complaint;
+use ob_file::{Complaint, Names};
+use ob_mark::{Held, NotId, held_of, id_of};
 use std::io::{Error, ErrorKind};
 
 /// Why a run ends before anything is read.
@@ -91,14 +95,18 @@ impl From<NoMemory> for StartErr {
 
 /// Says of a place why a run ends by it.
 pub(crate) fn refuse(said: &mut Complaint, place: &str, error: StartErr) -> StartErr
-    ensures { result ≡ error }
+    ensures error { result ≡ error }
+    ensures place { SaidOf place.now said.new }
 {
     said.say(&[place], Error::other(error.reason()));
     error
 }
 
 /// Says of a place that a call failed there.
-pub(crate) fn fail(said: &mut Complaint, place: &str, error: Error) -> StartErr {
+pub(crate) fn fail(said: &mut Complaint, place: &str, error: Error) -> StartErr
+    ensures error { result ≡ failure (error_kind error) }
+    ensures place { SaidOf place.now said.new }
+{
     said.say(&[place], error);
     if error.kind() == ErrorKind::OutOfMemory {
         StartErr::NoMemory
@@ -142,6 +150,41 @@ pub enum FoundScratch {
     Other,
     /// A file as such a run makes it.
     Left,
+}
+
+/// What has the name of a store where it is a folder of these names, with this text as its identity; where there is none,
+/// without a text.
+pub(crate) fn store_found(text: &[u8], names: Names) -> FoundStore
+    ensures { FindsStore text.now names.others names.regions result }
+{
+    if text.is_empty() {
+        return if names.others {
+            FoundStore::Foreign
+        } else {
+            FoundStore::Bare
+        };
+    }
+    match id_of(text) {
+        Ok(id) => FoundStore::Store {
+            id,
+            regions: names.regions,
+        },
+        Err(NotId::OtherVersion) => FoundStore::OtherVersion,
+        Err(NotId::Malformed) => FoundStore::Foreign,
+    }
+}
+
+/// What a file of this text is that lies at the place of a mark; where there is none, without a text.
+pub(crate) fn mark_found(text: &[u8]) -> FoundMark
+    ensures { FindsMark text.now result }
+{
+    if text.is_empty() {
+        return FoundMark::Nothing;
+    }
+    match held_of(text) {
+        Some(Held { id: Some(id), .. }) => FoundMark::Of(id),
+        _ => FoundMark::Other,
+    }
 }
 
 // Why a run may not save its tables in a store without a mark.
