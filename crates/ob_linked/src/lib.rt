@@ -80,7 +80,8 @@ pub fn paths_can_be_read()
 pub fn access_is_saved<R>()
     ensures { (key : R → ℕ) (h draw : ℕ) (s : State R) (op : Op R) (w : Went R)
         → length s.tree ≡ 4 * (2 ^ (h + 1) - 1) → leaf_read h s (key_of key op) draw < 2 ^ h
-        → access key h s op draw ≡ Some w → (t : Tree (List (Option R))) (cells : Cells (List (Option R)))
+        → access key h s op draw ≡ Some w
+        → (t : Tree (List (Option R))) (cells : Cells (List (Option R)))
         → IsTreeOf (2 ^ (h + 1) - 1) t s.tree → Lies (2 ^ (h + 1) - 1) t cells
         → (run : ℕ) (number : ℕ → ℕ)
         → Saves h (leaf_read h s (key_of key op) draw) t w.state run number cells }
@@ -97,7 +98,8 @@ pub fn runs_read_apart()
 /// a draw's leaf is any number that follows from the draw.
 pub fn leaf_is_enough()
     ensures { (leaf : ℕ → ℕ) (draw next : ℕ) (given ks : List ℕ) → draw < next
-        → ((j : ℕ) → j < length given → leaf (slice_index_or given j 0) ≡ leaf draw → is_among ks j ≡ true)
+        → ((j : ℕ) → j < length given → leaf (slice_index_or given j 0) ≡ leaf draw
+            → is_among ks j ≡ true)
         → NoneHas draw (renewed given ks next) }
 {}
 

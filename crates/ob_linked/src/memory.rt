@@ -31,8 +31,10 @@ impl Buckets for MemBuckets {
         left: Version,
         right: Version,
     ) -> Result<(), Failed>
-        ensures ok { OnOk result (Puts bucket version rows left right (cells_in self.old.cells.items) (cells_in self.new.cells.items)) }
-        ensures err { OnErr result (Spoils bucket version (cells_in self.old.cells.items) (cells_in self.new.cells.items)) }
+        ensures ok { OnOk result (Puts bucket version rows left right
+            (cells_in self.old.cells.items) (cells_in self.new.cells.items)) }
+        ensures err { OnErr result (Spoils bucket version
+            (cells_in self.old.cells.items) (cells_in self.new.cells.items)) }
     {
         let side: u64 = if version.side { 1 } else { 0 };
         let place = (2 * u64::from(bucket) + side) as usize;

@@ -32,7 +32,8 @@ pub trait Buckets {
         left: Version,
         right: Version,
     ) -> Result<(), Failed>
-        ensures ok { OnOk result (Puts bucket version rows left right (cells self.old) (cells self.new)) }
+        ensures ok { OnOk result (Puts bucket version rows left right
+            (cells self.old) (cells self.new)) }
         ensures err { OnErr result (Spoils bucket version (cells self.old) (cells self.new)) };
 }
 
@@ -99,7 +100,8 @@ pub fn write_path<B: Buckets>(
         → Lies n t (B.cells region.new) }
     ensures behind { OnOk result ((n : ℕ) (t : Tree ℕ) → IsPathOf t path.now
         → Lies n t (B.cells region.old)
-        → Lies n (turned t (buckets_of path.now) (rows_in path.now) run (numbers_in number path.now))
+        → Lies n (turned t (buckets_of path.now) (rows_in path.now) run
+            (numbers_in number path.now))
         (B.cells region.new)) }
 {
     write_steps(region, path, run, number)

@@ -110,10 +110,10 @@ impl MeddledStore {
         ensures steady { IsSteady (state_of self.new) }
         ensures spare { self.old.log.spare ≤ self.new.log.spare + 1 }
         ensures list { self.new.list ≡ self.old.list }
-        ensures usable { self.new.usable ≡ self.old.usable }
         ensures reopened { self.new.reopened ≡ self.old.reopened }
         ensures caught { self.new.caught ≡ self.old.caught }
-        ensures given_up { self.new.given_up ≡ self.old.given_up }
+        ensures live { (self.new.usable ≡ self.old.usable)
+            × (self.new.given_up ≡ self.old.given_up) }
         ensures rests { (q : ℕ) → rests_of self.new.regions q ≡ rests_of self.old.regions q }
         ensures stands { stands_of self.new.regions
             ≡ after_acts (rests_of self.old.regions) self.old.list

@@ -22,7 +22,7 @@ pub trait Keeper {
 
 /// A keeper that draws salts.
 pub trait Salts: Keeper {
-    /// Bytes that no other run has drawn: a run that saves its tables seals under keys of its own by them. That they
+    /// Bytes that no other run has drawn: a run seals under keys of its own by them, its salt. That they
     /// are others each time is what the keeper is trusted for, and no clause says it.
     fn salt(&mut self) -> Result<[u8; 16], Failed>
         ensures draws { DrawsSalt result (Self.state self.old) (Self.state self.new) };
