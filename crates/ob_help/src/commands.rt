@@ -11,7 +11,7 @@ pub enum Program {
 
 // The version, the kit that it is built with, and the form of a store's files.
 fn version<'a>() -> &'a str {
-    "0.1, of rattle-kit-13b logic dac8208d650f15bf, for files of form ribquince 1"
+    "0.1, of rattle-kit-13f logic dac8208d650f15bf, for files of form ribquince 1"
 }
 
 /// What a word says, the values that it may have, and what holds without it.

@@ -1,4 +1,6 @@
 //! Words that are none.
+ghost use Rattle.std.specs.Prelude.{◌≡◌, IfOk, string_bytes};
+
 use crate::commands::{Program, command, says};
 use crate::telling::text_of;
 use clap::error::ErrorKind;
@@ -54,7 +56,10 @@ fn is_flag(name: &str) -> bool {
 }
 
 // A word, and what isn't right with it.
-fn wrong(alloc: Global, word: &str, reason: &str) -> Result<WrongWord, NoMemory> {
+fn wrong(alloc: Global, word: &str, reason: &str) -> Result<WrongWord, NoMemory>
+    ensures word { IfOk result (λ it. string_bytes it.word ≡ word.now) }
+    ensures reason { IfOk result (λ it. string_bytes it.reason ≡ reason.now) }
+{
     let Ok(word) = String::from_str(alloc, word) else {
         return Err(NoMemory);
     };
