@@ -92,7 +92,9 @@ fn with_next(alloc: Global, path: &str) -> Result<String, NoMemory> {
 }
 
 // Room for the text of a mark.
-fn text_room(alloc: Global) -> Result<Vec<u8>, NoMemory> {
+fn text_room(alloc: Global) -> Result<Vec<u8>, NoMemory>
+    ensures { IfOk result (λ text. vec_items text ≡ []) }
+{
     match Vec::with_capacity(alloc, LONG) {
         Ok(text) => Ok(text),
         Err(_) => Err(NoMemory),
@@ -140,6 +142,14 @@ fn compare(text: &[u8], left: &[u8]) -> io::Result<()>
     } else {
         Err(Error::other("another run has changed it"))
     }
+}
+
+// Looks whether a file has what was left in it.
+fn check<R: Files>(files: &R, path: &str, seen: &mut Vec<u8>, left: &[u8]) -> io::Result<()>
+    ensures { OnOk result (vec_items seen.new ≡ left.now) }
+{
+    read_text(files, path, seen)?;
+    compare(seen.as_slice(), left)
 }
 
 // Makes a text that of a mark.
@@ -247,14 +257,6 @@ impl<'a, R: Files> FileKeeper<'a, R> {
         at(Part::Mark, mark_in(&self.left, self.id))
     }
 
-    // Looks whether the file is as it was left.
-    fn check(&mut self) -> io::Result<()>
-        ensures { self.new ≡ self.old }
-    {
-        read_text(self.files, self.path.as_str(), &mut self.seen)?;
-        compare(&self.seen, &self.left)
-    }
-
     // Puts a text in the place of the file's, if that is as it was left, and looks whether it is there: where two runs do so
     // at once, what lies beside is that of the last one.
     fn replace(&mut self, mark: &Mark) -> Result<(), (Part, Error)>
@@ -263,7 +265,10 @@ impl<'a, R: Files> FileKeeper<'a, R> {
         ensures id { self.new.id ≡ self.old.id }
         ensures faults { self.new.faults ≡ self.old.faults }
     {
-        at(Part::Mark, self.check())?;
+        at(
+            Part::Mark,
+            check(self.files, self.path.as_str(), &mut self.seen, &self.left),
+        )?;
         let held = Held {
             mark: *mark,
             id: self.id,
@@ -273,13 +278,19 @@ impl<'a, R: Files> FileKeeper<'a, R> {
             Part::Beside,
             write_text(self.files, self.beside.as_str(), &self.text),
         )?;
-        at(Part::Mark, self.check())?;
+        at(
+            Part::Mark,
+            check(self.files, self.path.as_str(), &mut self.seen, &self.left),
+        )?;
         at(
             Part::Mark,
             rename(self.files, self.beside.as_str(), self.path.as_str()),
         )?;
         swap(&mut self.left, &mut self.text);
-        at(Part::Mark, self.check())?;
+        at(
+            Part::Mark,
+            check(self.files, self.path.as_str(), &mut self.seen, &self.left),
+        )?;
         at(Part::Folder, settle(self.files, self.folder.as_str()))
     }
 
@@ -289,7 +300,10 @@ impl<'a, R: Files> FileKeeper<'a, R> {
         ensures id { self.new.id ≡ self.old.id }
         ensures faults { self.new.faults ≡ self.old.faults }
     {
-        at(Part::Mark, self.check())?;
+        at(
+            Part::Mark,
+            check(self.files, self.path.as_str(), &mut self.seen, &self.left),
+        )?;
         at(Part::Mark, clear(self.files, self.path.as_str()))?;
         self.left.clear();
         at(Part::Folder, settle(self.files, self.folder.as_str()))
