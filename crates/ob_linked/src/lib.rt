@@ -99,7 +99,7 @@ pub fn runs_read_apart()
 pub fn leaf_is_enough()
     ensures { (leaf : ℕ → ℕ) (draw next : ℕ) (given ks : List ℕ) → draw < next
         → ((j : ℕ) → j < length given → leaf (slice_index_or given j 0) ≡ leaf draw
-            → is_among ks j ≡ true)
+        → is_among ks j ≡ true)
         → NoneHas draw (renewed given ks next) }
 {}
 

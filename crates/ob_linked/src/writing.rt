@@ -101,7 +101,7 @@ pub fn write_path<B: Buckets>(
     ensures behind { OnOk result ((n : ℕ) (t : Tree ℕ) → IsPathOf t path.now
         → Lies n t (B.cells region.old)
         → Lies n (turned t (buckets_of path.now) (rows_in path.now) run
-            (numbers_in number path.now))
+        (numbers_in number path.now))
         (B.cells region.new)) }
 {
     write_steps(region, path, run, number)
