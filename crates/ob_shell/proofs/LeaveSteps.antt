@@ -29,7 +29,6 @@ use Rattle.ob_tables.specs.Engines.{IsTableRegion}
 use Rattle.ob_tables.specs.Refusals.{refused_end}
 use Rattle.ob_tables.specs.Running.{outcome_end}
 use Rattle.ob_verdict.proofs.AlikeTables.{alike_turned}
-use Rattle.ob_verdict.specs.declared.outcome.Outcome.TheVariants.{Rows}
 
 -- ---- how an answer ends
 refused_whole : (r : Refusal) (n : ℕ) → refused_end r n ≡ Whole → is_store_fault r ≡ false

@@ -110,7 +110,7 @@ ran_turn {state = state} {f0 = f0} {f2 = f2} {gave = gave} {p = p} {b = b} {m0 =
 
 -- ---- no more is read, and then those that wait are served
 -- once they are
-pub ran_flushed : {R : Type 0} {state : R → RevState} {Lost : Type 0} {on : Bool} {t0 t1 t2 : Option (List ℕ)} {f0 f2 : Fetch} {gave : ℕ} {l0 l2 w0 w1 w2 : Option (List ℕ)} {batch : List Stmt} {r r' : Tally} {m0 m1 m2 : Machine R} (ends : Result (Unit {0}) Stop)
+pub ran_flushed : {R : Type 0} {state : R → RevState} {Lost : Type 0} {on : Bool} {t0 t1 t2 : Option (List ℕ)} {f0 f2 : Fetch} {gave : ℕ} {l0 l2 w0 w1 w2 : Option (List ℕ)} {batch : List Stmt} {r r' : Tally} {m0 m1 m2 : Machine R} (ends : Option Stop)
     → (read : HasRead state on f0 f2 l0 l2 gave w0 w1 t0 t1 batch r m0 m1 ends) → {Then : (old new : Gathered) → Type 0} → ((gathered : Gathered) (held : List (List ℕ)) → ComesFree m1.flights.settings (public_of m1.engine) batch gathered → AreSpelt held batch
     → ServedSo state w1 w2 (held ++ []) [] (Then gathered) r r' (standing m1 [] gathered) m2) → TracedAll on m1.store.asked m2.store.asked t1 t2
     → SessionRan state on f0 f2 l0 l2 gave w0 w2 t0 t2 m0 m2 Lost (ended_with ends r')
@@ -146,7 +146,7 @@ ran_flushed {state = state} {Lost = Lost} {on = on} {t0 = t0} {t2 = t2} {f0 = f0
     }
 
 -- or one of them stopped it
-pub ran_unflushed : {R : Type 0} {state : R → RevState} {Lost : Type 0} {on : Bool} {t0 t1 t2 : Option (List ℕ)} {f0 f2 : Fetch} {gave : ℕ} {l0 l2 w0 w1 w2 : Option (List ℕ)} {batch : List Stmt} {r : Tally} {m0 m1 m2 : Machine R} (ends : Result (Unit {0}) Stop) (run : RunStop)
+pub ran_unflushed : {R : Type 0} {state : R → RevState} {Lost : Type 0} {on : Bool} {t0 t1 t2 : Option (List ℕ)} {f0 f2 : Fetch} {gave : ℕ} {l0 l2 w0 w1 w2 : Option (List ℕ)} {batch : List Stmt} {r : Tally} {m0 m1 m2 : Machine R} (ends : Option Stop) (run : RunStop)
     → (read : HasRead state on f0 f2 l0 l2 gave w0 w1 t0 t1 batch r m0 m1 ends) → AreWaiting m1.flights.settings (public_of m1.engine) (asked_of m1) batch
     → ((gathered : Gathered) (held : List (List ℕ)) → ComesFree m1.flights.settings (public_of m1.engine) batch gathered → AreSpelt held batch → BreaksIn state on w1 w2 t1 t2 Lost (held ++ []) run (standing m1 [] gathered) m2)
     → SessionRan state on f0 f2 l0 l2 gave w0 w2 t0 t2 m0 m2 Lost (Err (session_stop run))

@@ -10,7 +10,7 @@ use Rattle.ob_mean.specs.Replay.{Alone, CutAfter, CutWith, With, drawn_by, draws
 use Rattle.ob_mean.specs.Settle.{settle, settle_served, settled}
 use Rattle.ob_mean.specs.Step.{followed}
 use Rattle.ob_mean.specs.Verdict.{Accessed, accessed, accessed_now, gone, refusal}
-use Rattle.ob_sql.specs.declared.stmt.Stmt.TheVariants.{Insert, SelectRows as RowsStmt, SelectTotals as TotalsStmt}
+use Rattle.ob_sql.specs.declared.stmt.Stmt.TheVariants.{SelectRows as RowsStmt, SelectTotals as TotalsStmt}
 
 -- ---- by its outline
 not_so : (b : Bool) → not b ≡ true → b ≡ false

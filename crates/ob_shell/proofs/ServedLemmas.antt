@@ -1,11 +1,12 @@
 -- How a session ends behind its reading, once those that waited were served.
-use Rattle.ob_shell.proofs.Words.{ap, arith, asked_of, batch_most, begins, Bool, Err, false, Faults, faults_of, Fetch, FlightSettings, inl, inr, length, List, Machine, most_flown, Option, option_map_or, Public, public_of, refl, Result, RevState, Rises, RunStop, ServesAlone, session_stop, Silenced, standing, Stmt, Stop, StopCause, subst, sym, Tally, true, ℕ, [], ◌+◌, ◌-◌, ◌∙◌, ◌∷◌, ◌≡◌, ◌≢◌, ◌⊎◌}
+use Rattle.ob_shell.proofs.Words.{ap, arith, asked_of, batch_most, begins, Bool, Err, false, Faults, faults_of, Fetch, FlightSettings, inl, inr, length, List, Machine, most_flown, None, Ok, Option, option_map_or, Public, public_of, refl, RevState, Rises, RunStop, ServesAlone, session_stop, Silenced, Some, standing, Stmt, Stop, stop_of, StopCause, subst, sym, Tally, true, ℕ, [], ◌+◌, ◌-◌, ◌∙◌, ◌∷◌, ◌≡◌, ◌≢◌, ◌⊎◌}
 use Rattle.std.specs.Prelude.{max, min}
 use Rattle.ob_base.specs.declared.refusal.Stop.TheVariants as Stops
 use Rattle.ob_headline.specs.Status.{StaysAlone}
 use Rattle.ob_shell.proofs.CountLemmas.{rises_earlier}
 use Rattle.ob_shell.proofs.WaitLemmas.{steps_flown, steps_most}
-use Rattle.ob_shell.specs.Serving.{HasRead}
+use Rattle.ob_shell.specs.Running.{is_quiet}
+use Rattle.ob_shell.specs.Serving.{HasRead, read_end}
 use Rattle.ob_shell.specs.Waiting.{AreWaiting}
 use Rattle.ob_tables.specs.declared.stop.RunStop.TheVariants as Runs
 
@@ -19,6 +20,16 @@ source_later T Alone Stops.InputLimit old new cause = inl cause.source
 source_later T Alone Stops.StoreFault old new cause = cause.0.1
 source_later T Alone Stops.StashFull old new cause = cause.0.1
 source_later T Alone Stops.KeeperFault old new cause = cause.0.1
+
+-- the same where the input may have ended
+pub read_later : (Alone : Type 0) (left : Option Stop) (old new : Faults) → StopCause Alone old new (stop_of (read_end (Ok left))) → (new.source ≡ old.source) ⊎ Rises old.source new.source
+read_later Alone None old new cause = inl cause.source
+read_later Alone (Some stop) old new cause = source_later (Unit {0}) Alone stop old new cause
+
+-- behind either a line may be written
+pub unsilenced : (left : Option Stop) (old new : Faults) → Silenced (is_quiet (read_end (Ok left))) old new → Silenced false old new
+unsilenced None old new told = told
+unsilenced (Some stop) old new told = told
 
 -- ---- the counts
 -- the reading's stop, behind which those that waited were served
@@ -53,7 +64,7 @@ alone_waits settings0 settings1 p0 p1 m (first ∷ rest) same flown alone (inr w
     let room = waits.room in let one = alone.1 in let long : length (first ∷ rest) ≡ length rest + 1 = omega arith in absurd (omega (arith, room, one, flown, long))
 
 -- so none of them was stopped
-pub alone_read : {R : Type 0} {state : R → RevState} {on : Bool} {f0 f1 : Fetch} {l0 l1 : Option (List ℕ)} {gave : ℕ} {w0 w1 t0 t1 : Option (List ℕ)} {batch : List Stmt} {r : Tally} {m0 m1 : Machine R} {ends : Result (Unit {0}) Stop}
+pub alone_read : {R : Type 0} {state : R → RevState} {on : Bool} {f0 f1 : Fetch} {l0 l1 : Option (List ℕ)} {gave : ℕ} {w0 w1 t0 t1 : Option (List ℕ)} {batch : List Stmt} {r : Tally} {m0 m1 : Machine R} {ends : Option Stop}
     → HasRead state on f0 f1 l0 l1 gave w0 w1 t0 t1 batch r m0 m1 ends → AreWaiting m1.flights.settings (public_of m1.engine) (asked_of m1) batch → batch ≢ [] → ServesAlone m0.flights.settings (public_of m0.engine) → ⊥
 alone_read {state = state} {batch = batch} {m0 = m0} {m1 = m1} read waits some alone =
     some (alone_waits m0.flights.settings m1.flights.settings (public_of m0.engine) (public_of m1.engine) (asked_of m1) batch (steps_most state m0 (standing m1 [] read.so.gathered) read.so.served read.so.answers read.so.steps)

@@ -1,9 +1,10 @@
 -- Texts that are taken, part by part: some are answered, and some wait.
-use Rattle.ob_shell.proofs.Words.{ap, append-nil, append_assoc, Appends, AreSpelt, asked_of, Bool, closing_line, Engine, Err, false, Faults, Flights, Gathered, inl, inr, IsReady, KeeperState, List, Machine, machine_of, may_fly, None, Ok, Option, OutFailed, Outputs, Outputs-by, public_of, refl, Refused, Result, RevState, RunStop, Silenced, skeleton, Spells, standing, Stmt, Stop, stop_of, StopCause, StoreState, subst, sym, Tally, TextHalted, Took, Traced, TracedAll, true, ℕ, [], ◌++◌, ◌∙◌, ◌∷◌, ◌≡◌}
+use Rattle.ob_shell.proofs.Words.{ap, append-nil, append_assoc, Appends, AreSpelt, asked_of, Bool, closing_line, Engine, Err, false, Faults, Flights, Gathered, inl, inr, IsReady, KeeperState, List, Machine, machine_of, may_fly, None, Ok, Option, OutFailed, Outputs, Outputs-by, public_of, refl, Refused, Result, RevState, RunStop, session_stop, Silenced, Some, skeleton, Spells, standing, Stmt, Stop, stop_of, StopCause, StoreState, subst, sym, Tally, TextHalted, Took, Traced, TracedAll, true, ℕ, [], ◌++◌, ◌∙◌, ◌∷◌, ◌≡◌}
 use Rattle.std.specs.Prelude.{OnErr, OnOk}
 use Rattle.ob_base.specs.declared.refusal.Refusal.TheVariants.{Syntax}
 use Rattle.ob_headline.specs.Texts.{texts_at}
 use Rattle.ob_headline.specs.Words.{NoneRose}
+use Rattle.ob_shell.proofs.CountLemmas.{same_cause}
 use Rattle.ob_shell.proofs.PlaceLemmas.{alone_free, none_free, single_closed}
 use Rattle.ob_shell.proofs.ServeLemmas.{misspelt}
 use Rattle.ob_shell.proofs.StepLemmas.{PartlyAt-more, Steps-none, counts_one, one_step, printed-nil}
@@ -12,13 +13,11 @@ use Rattle.ob_shell.proofs.TraceLemmas.{traced_cut, traced_none, traced_then, tr
 use Rattle.ob_shell.proofs.WaitLemmas.{break_then, follow_more, none_held, so_idle, so_then}
 use Rattle.ob_shell.specs.Lines.{line_answer}
 use Rattle.ob_shell.specs.Running.{IsQuiet, halted_of}
-use Rattle.ob_shell.specs.Serving.{IsNotTaken, ServesStmt, TakesMore, TakesTexts, WantsRoom, counted_by}
+use Rattle.ob_shell.specs.Serving.{IsNotTaken, ServesStmt, TakesTexts, TakesUntil, WantsRoom, counted_by}
 use Rattle.ob_shell.proofs.TallyLemmas.{tally_after-one}
 use Rattle.ob_shell.specs.Steps.{AnswersText, StopsIn, none_gathered}
 use Rattle.ob_shell.specs.Tallies.{tally_with}
 use Rattle.ob_shell.specs.Waiting.{AreWaiting, BreaksIn, IsClosed, IsFree, ServedSo, begins_flight}
-use Rattle.ob_shell.specs.declared.session.Break.{Break}
-use Rattle.ob_shell.specs.declared.session.Break.TheVariants.{Served, Unread}
 use Rattle.ob_tables.specs.declared.stop.RunStop.TheVariants.{SinkFault}
 
 -- ---- one part after the other
@@ -60,10 +59,10 @@ module _ {R S : Type 0} {state : R → RevState} {Saves Saves' : Type 0} {on : B
 -- the same where the second part may leave what comes next unread, behind those that waited
 module _ {R S : Type 0} {state : R → RevState} {Saves : Type 0} {on : Bool} {May May' : Gathered → Type 0} {Then Then' Last : (old new : Gathered) → Type 0} {b0 b1 : List Stmt} {t0 t1 : Tally} {w0 w1 s0 s1 : Option (List ℕ)} {old mid : Faults}
     {m0 m1 : Machine R} {x : S} (first : TakesTexts state Saves on May Then b0 b1 [] t0 t1 w0 w1 s0 s1 old mid m0 m1 (Ok x)) (may : (g h : Gathered) → May g → Then g h → May' h) (last : (g h k : Gathered) → May g → Then g h → Then' h k → Last g k) (ys : List (List ℕ)) (Why : Stop → Type 0) where
-  pub takes_more_then : {T : Type 0} (Saves' : Type 0) (b2 : List Stmt) (t2 : Tally) (w2 s2 : Option (List ℕ)) (new : Faults) (m2 : Machine R) (result : Result T Break) → TakesMore state Saves' on May' Then' b1 b2 ys Why t1 t2 w1 w2 s1 s2 mid new m1 m2 result → TakesMore state Saves' on May Last b0 b2 ys Why t0 t2 w0 w2 s0 s2 old new m0 m2 result
-  takes_more_then Saves' b2 t2 w2 s2 new m2 (Ok y) next = takes_then first may ys (Ok y) last next
-  takes_more_then Saves' b2 t2 w2 s2 new m2 (Err (Served halted)) next = takes_then first may ys (Err halted) last next
-  takes_more_then Saves' b2 t2 w2 s2 new m2 (Err (Unread stop)) next = (takes_then first may [] (Ok tt) (λ g h k comes then later. later) next.0, next.1)
+  pub takes_until_then : (Saves' : Type 0) (b2 : List Stmt) (t2 : Tally) (w2 s2 : Option (List ℕ)) (new : Faults) (m2 : Machine R) (result : Result (Option Stop) TextHalted) → TakesUntil state Saves' on May' Then' b1 b2 ys Why t1 t2 w1 w2 s1 s2 mid new m1 m2 result → TakesUntil state Saves' on May Last b0 b2 ys Why t0 t2 w0 w2 s0 s2 old new m0 m2 result
+  takes_until_then Saves' b2 t2 w2 s2 new m2 (Ok None) next = takes_then first may ys (Ok None) last next
+  takes_until_then Saves' b2 t2 w2 s2 new m2 (Ok (Some stop)) next = (takes_then first may [] (Ok (Some stop)) (λ g h k comes then later. later) next.0, next.1)
+  takes_until_then Saves' b2 t2 w2 s2 new m2 (Err halted) next = takes_then first may ys (Err halted) last next
 
 -- ---- whichever flights are to come
 pub ready_with : {R : Type 0} {state : R → RevState} {Saves : Type 0} {e : Engine R} {s : StoreState} {k : KeeperState} {f h : Flights} → IsReady state Saves (machine_of e s k f) → IsReady state Saves (machine_of e s k h)
@@ -87,6 +86,11 @@ takes_idle on {Then = Then} batch tally w t old m x ready waits then = record {
 pub takes_as : {R A B : Type 0} {state : R → RevState} {Saves : Type 0} {on : Bool} {May : Gathered → Type 0} {Then : (old new : Gathered) → Type 0} {b0 b1 : List Stmt} {xs : List (List ℕ)} {t0 t1 : Tally} {w0 w1 s0 s1 : Option (List ℕ)} {old new : Faults} {m0 m1 : Machine R} {x : A} (y : B)
     → TakesTexts state Saves on May Then b0 b1 xs t0 t1 w0 w1 s0 s1 old new m0 m1 (Ok x) → TakesTexts state Saves on May Then b0 b1 xs t0 t1 w0 w1 s0 s1 old new m0 m1 (Ok y)
 takes_as y takes = record { ready = takes.ready; waits = takes.waits; done = takes.done; stopped = tt; traced = takes.traced; traced_stop = tt; cause = takes.cause; quiet = takes.quiet }
+
+-- the same of a stop
+pub halts_as : {R A : Type 0} (B : Type 0) {state : R → RevState} {Saves : Type 0} {on : Bool} {May : Gathered → Type 0} {Then : (old new : Gathered) → Type 0} {b0 b1 : List Stmt} {xs : List (List ℕ)} {t0 t1 : Tally} {w0 w1 s0 s1 : Option (List ℕ)} {old new : Faults} {m0 m1 : Machine R} (halted : TextHalted)
+    → TakesTexts {T = A} state Saves on May Then b0 b1 xs t0 t1 w0 w1 s0 s1 old new m0 m1 (Err halted) → TakesTexts {T = B} state Saves on May Then b0 b1 xs t0 t1 w0 w1 s0 s1 old new m0 m1 (Err halted)
+halts_as {A = A} B {old = old} {new = new} halted takes = record { ready = tt; waits = tt; done = tt; stopped = takes.stopped; traced = tt; traced_stop = takes.traced_stop; cause = same_cause (Unit {0}) A B (session_stop halted.stop) old new takes.cause; quiet = takes.quiet }
 
 -- a stop came before the texts that come behind
 pub takes_broken : {R T U : Type 0} {state : R → RevState} {Saves Saves' : Type 0} {on : Bool} {May May' : Gathered → Type 0} {Then Then' : (old new : Gathered) → Type 0} {b0 b1 c1 : List Stmt} {t0 t1 u1 : Tally} {w0 w1 s0 s1 : Option (List ℕ)} {old new : Faults} {m0 m1 : Machine R} (halted : TextHalted) (ys : List (List ℕ))
@@ -124,22 +128,22 @@ pub comes_by : {R U : Type 0} {state : R → RevState} {Saves : Type 0} {on : Bo
 comes_by (Ok x) may takes = record { ready = takes.ready; waits = takes.waits; done = λ g held comes spelt. takes.done g held (may g comes) spelt; stopped = tt; traced = takes.traced; traced_stop = tt; cause = takes.cause; quiet = takes.quiet }
 comes_by (Err halted) may takes = record { ready = tt; waits = tt; done = tt; stopped = λ g held comes spelt. takes.stopped g held (may g comes) spelt; traced = tt; traced_stop = takes.traced_stop; cause = takes.cause; quiet = takes.quiet }
 
-module _ {R T : Type 0} (state : R → RevState) (Saves : Type 0) (on : Bool) (Then : (old new : Gathered) → Type 0) (b0 b1 : List Stmt) (t0 t1 : Tally) (w0 w1 s0 s1 : Option (List ℕ)) (old new : Faults) (m0 m1 : Machine R) where
+module _ {R : Type 0} (state : R → RevState) (Saves : Type 0) (on : Bool) (Then : (old new : Gathered) → Type 0) (b0 b1 : List Stmt) (t0 t1 : Tally) (w0 w1 s0 s1 : Option (List ℕ)) (old new : Faults) (m0 m1 : Machine R) where
   -- it comes behind what else may be gathered
-  pub takes_more_by : {May May' : Gathered → Type 0} (xs : List (List ℕ)) (Why : Stop → Type 0) (result : Result T Break) → ((g : Gathered) → May' g → May g) → TakesMore state Saves on May Then b0 b1 xs Why t0 t1 w0 w1 s0 s1 old new m0 m1 result → TakesMore state Saves on May' Then b0 b1 xs Why t0 t1 w0 w1 s0 s1 old new m0 m1 result
-  takes_more_by xs Why (Ok x) may takes = comes_by (Ok x) may takes
-  takes_more_by xs Why (Err (Served halted)) may takes = comes_by (Err halted) may takes
-  takes_more_by xs Why (Err (Unread stop)) may takes = (comes_by (Ok tt) may takes.0, takes.1)
+  pub takes_until_by : {May May' : Gathered → Type 0} (xs : List (List ℕ)) (Why : Stop → Type 0) (result : Result (Option Stop) TextHalted) → ((g : Gathered) → May' g → May g) → TakesUntil state Saves on May Then b0 b1 xs Why t0 t1 w0 w1 s0 s1 old new m0 m1 result → TakesUntil state Saves on May' Then b0 b1 xs Why t0 t1 w0 w1 s0 s1 old new m0 m1 result
+  takes_until_by xs Why (Ok None) may takes = comes_by (Ok None) may takes
+  takes_until_by xs Why (Ok (Some stop)) may takes = (comes_by (Ok (Some stop)) may takes.0, takes.1)
+  takes_until_by xs Why (Err halted) may takes = comes_by (Err halted) may takes
 
   -- the text that a byte ended
-  pub turns_by : (May : Gathered → Type 0) (p : List ℕ) (b : ℕ) (text : List ℕ) → texts_at p b ≡ text ∷ [] → (result : Result T Break) → TakesMore state Saves on May Then b0 b1 (text ∷ []) WantsRoom t0 t1 w0 w1 s0 s1 old new m0 m1 result
-      → TakesMore state Saves on May Then b0 b1 (texts_at p b) (IsNotTaken p b) t0 t1 w0 w1 s0 s1 old new m0 m1 result
-  turns_by May p b text is (Ok x) takes = subst (λ (l : List (List ℕ)). TakesTexts state Saves on May Then b0 b1 l t0 t1 w0 w1 s0 s1 old new m0 m1 (Ok x)) (sym is) takes
-  turns_by May p b text is (Err (Served halted)) takes = subst (λ (l : List (List ℕ)). TakesTexts {T = T} state Saves on May Then b0 b1 l t0 t1 w0 w1 s0 s1 old new m0 m1 (Err halted)) (sym is) takes
-  turns_by May p b text is (Err (Unread stop)) takes = (takes.0, subst (IsNotTaken p b) (sym takes.1) tt)
+  pub turns_by : (May : Gathered → Type 0) (p : List ℕ) (b : ℕ) (text : List ℕ) → texts_at p b ≡ text ∷ [] → (result : Result (Option Stop) TextHalted) → TakesUntil state Saves on May Then b0 b1 (text ∷ []) WantsRoom t0 t1 w0 w1 s0 s1 old new m0 m1 result
+      → TakesUntil state Saves on May Then b0 b1 (texts_at p b) (IsNotTaken p b) t0 t1 w0 w1 s0 s1 old new m0 m1 result
+  turns_by May p b text is (Ok None) takes = subst (λ (l : List (List ℕ)). TakesTexts {T = Option Stop} state Saves on May Then b0 b1 l t0 t1 w0 w1 s0 s1 old new m0 m1 (Ok None)) (sym is) takes
+  turns_by May p b text is (Ok (Some stop)) takes = (takes.0, subst (IsNotTaken p b) (sym takes.1) tt)
+  turns_by May p b text is (Err halted) takes = subst (λ (l : List (List ℕ)). TakesTexts {T = Option Stop} state Saves on May Then b0 b1 l t0 t1 w0 w1 s0 s1 old new m0 m1 (Err halted)) (sym is) takes
 
-  pub takes_of_text : (May : Gathered → Type 0) (xs : List (List ℕ)) (text : List ℕ) → xs ≡ text ∷ [] → (result : Result T Break) → TakesMore state Saves on May Then b0 b1 (text ∷ []) WantsRoom t0 t1 w0 w1 s0 s1 old new m0 m1 result → TakesMore state Saves on May Then b0 b1 xs WantsRoom t0 t1 w0 w1 s0 s1 old new m0 m1 result
-  takes_of_text May xs text is result takes = subst (λ (l : List (List ℕ)). TakesMore state Saves on May Then b0 b1 l WantsRoom t0 t1 w0 w1 s0 s1 old new m0 m1 result) (sym is) takes
+  pub takes_of_text : (May : Gathered → Type 0) (xs : List (List ℕ)) (text : List ℕ) → xs ≡ text ∷ [] → (result : Result (Option Stop) TextHalted) → TakesUntil state Saves on May Then b0 b1 (text ∷ []) WantsRoom t0 t1 w0 w1 s0 s1 old new m0 m1 result → TakesUntil state Saves on May Then b0 b1 xs WantsRoom t0 t1 w0 w1 s0 s1 old new m0 m1 result
+  takes_of_text May xs text is result takes = subst (λ (l : List (List ℕ)). TakesUntil state Saves on May Then b0 b1 l WantsRoom t0 t1 w0 w1 s0 s1 old new m0 m1 result) (sym is) takes
 
 -- a stop of which nothing was lost
 pub stops_unlost : {R : Type 0} {state : R → RevState} {w0 w1 : Option (List ℕ)} {quiet : Bool} {P G : Type 0} {texts : List (List ℕ)} {stop : RunStop} {m0 m1 : Machine R} → quiet ≡ false → StopsIn state w0 w1 ((quiet ≡ true) × P) texts stop m0 m1 → StopsIn state w0 w1 G texts stop m0 m1

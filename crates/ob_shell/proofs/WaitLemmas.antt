@@ -1,5 +1,5 @@
 -- Texts that are served while others wait, one part after the other.
-use Rattle.ob_shell.proofs.Words.{All, All-cons, All-head, All-tail, All-weaker, AllInsert, Answer, AnsweredBut, ap, append_assoc, Appends-nil, Appends-trans, AreSpelt, arith, at_rest, batch_most, Begins, begins, Bool, EndsBy, Err, Fetch, flagged, FlightSettings, Gathered, inl, inr, inserts_into, LastPart, length, length-append, List, Machine, map, may_fly, more_together, most_flown, most_some, None, Ok, one_more, Option, Outputs, Outputs-after, printed, Public, public_of, refl, Result, RevState, RunStop, seen_of, SelectsFromOne, skeleton, Some, SpellFirst, Spells, standing, statements_of, Step, Steps, Stmt, Stop, subst, sym, Table, Tally, TracedAll, true, ℕ, [], ◌++◌, ◌∙◌, ◌∷◌, ◌≡◌, ◌⊎◌}
+use Rattle.ob_shell.proofs.Words.{All, All-cons, All-head, All-tail, All-weaker, AllInsert, Answer, AnsweredBut, ap, append_assoc, Appends-nil, Appends-trans, AreSpelt, arith, at_rest, batch_most, Begins, begins, Bool, EndsBy, Fetch, flagged, FlightSettings, Gathered, inl, inr, inserts_into, LastPart, length, length-append, List, Machine, map, may_fly, more_together, most_flown, most_some, None, Ok, one_more, Option, Outputs, Outputs-after, printed, Public, public_of, refl, Result, RevState, RunStop, seen_of, SelectsFromOne, skeleton, Some, SpellFirst, Spells, standing, statements_of, Step, Steps, Stmt, Stop, subst, sym, Table, Tally, TracedAll, true, ℕ, [], ◌++◌, ◌∙◌, ◌∷◌, ◌≡◌, ◌⊎◌}
 use Rattle.std.specs.Prelude.{IsSome}
 use Rattle.ob_base.specs.declared.refusal.Stop.TheVariants as Stops
 use Rattle.ob_headline.proofs.PromptLemmas.{all_answered, none_waits}
@@ -299,20 +299,20 @@ answered_but settings p m batch texts served held more_served rest ys whole gath
 
 -- ---- how a session ends behind them
 module _ (f : Fetch) (ended : Bool) (bytes : List ℕ) (more : List (List ℕ)) (t : Tally) where
-  pub ends_end : (ends : Result (Unit {0}) Stop) → EndsReading f ended bytes more ends → EndsBy f ended bytes more [] (flagged (ended_with ends t))
-  ends_end (Ok x) reading = reading
-  ends_end (Err Stops.NoMemory) reading = tt
-  ends_end (Err Stops.SourceFault) reading = reading
-  ends_end (Err Stops.InputLimit) reading = reading
+  pub ends_end : (ends : Option Stop) → EndsReading f ended bytes more ends → EndsBy f ended bytes more [] (flagged (ended_with ends t))
+  ends_end None reading = reading
+  ends_end (Some Stops.NoMemory) reading = tt
+  ends_end (Some Stops.SourceFault) reading = reading
+  ends_end (Some Stops.InputLimit) reading = reading
   ends_end other reading = absurd reading
 
-  pub last_idle : {R : Type 0} (state : R → RevState) (m : Machine R) → m.owed ≡ [] → (ends : Result (Unit {0}) Stop) → EndsReading f ended bytes more ends → LastPart state m m more [] (flagged (ended_with ends t))
-  last_idle state m free (Ok x) reading = record { machine = refl; free = free; none = refl }
-  last_idle state m free (Err Stops.NoMemory) reading = PartlyAt-none state m more Runs.NoMemory free refl
-  last_idle state m free (Err Stops.SourceFault) reading = record { machine = refl; free = free; none = refl }
-  last_idle state m free (Err Stops.InputLimit) reading = record { machine = refl; free = free; none = refl }
+  pub last_idle : {R : Type 0} (state : R → RevState) (m : Machine R) → m.owed ≡ [] → (ends : Option Stop) → EndsReading f ended bytes more ends → LastPart state m m more [] (flagged (ended_with ends t))
+  last_idle state m free None reading = record { machine = refl; free = free; none = refl }
+  last_idle state m free (Some Stops.NoMemory) reading = PartlyAt-none state m more Runs.NoMemory free refl
+  last_idle state m free (Some Stops.SourceFault) reading = record { machine = refl; free = free; none = refl }
+  last_idle state m free (Some Stops.InputLimit) reading = record { machine = refl; free = free; none = refl }
   last_idle state m free other reading = absurd reading
 
-pub tally_end : (ends : Result (Unit {0}) Stop) (t : Tally) (answers : List Answer) → TallyIs answers (Ok t) → TallyIs answers (ended_with ends t)
-tally_end (Ok x) t answers counted = counted
-tally_end (Err stop) t answers counted = tt
+pub tally_end : (ends : Option Stop) (t : Tally) (answers : List Answer) → TallyIs answers (Ok t) → TallyIs answers (ended_with ends t)
+tally_end None t answers counted = counted
+tally_end (Some stop) t answers counted = tt

@@ -4,10 +4,9 @@ use Rattle.ob_base.specs.declared.access.Access.{Access}
 use Rattle.ob_base.specs.declared.refusal.Stop.{Stop}
 use Rattle.ob_gen.specs.declared.tally.Tally.{Tally}
 use Rattle.ob_headline.specs.Words.{Faults}
-use Rattle.ob_shell.specs.Serving.{TakesMore, TakesTexts}
+use Rattle.ob_shell.specs.Serving.{TakesTexts, TakesUntil}
 use Rattle.ob_shell.specs.Steps.{IsReady, Machine, asked_of}
 use Rattle.ob_shell.specs.Waiting.{AreBatched, AreWaiting, ComesFree, GoesAlong, IsClosed, IsFree}
-use Rattle.ob_shell.specs.declared.session.Break.{Break}
 use Rattle.ob_shell.specs.declared.session.TextHalted.{TextHalted}
 use Rattle.ob_sql.specs.declared.stmt.Stmt.{Stmt}
 use Rattle.ob_tables.specs.Agreeing.{public_of}
@@ -43,11 +42,11 @@ GoesHere h stmt = GoesAlong h.machine.flights.settings (public_of h.machine.engi
 
 -- these texts were taken, where the first of these statements goes into nothing that is gathered, or a stop came, which leaves
 -- what comes next unread for one of these causes
-abbrev pub TakesHere : {R T : Type 0} (state : R → RevState) (Saves : Type 0) (tracing : Bool)
+abbrev pub TakesHere : {R : Type 0} (state : R → RevState) (Saves : Type 0) (tracing : Bool)
     (firsts : List Stmt) (texts : List (List ℕ)) (Why : Stop → Type 0) (h0 h1 : Here R)
-    → Result T Break → Type 0
+    → Result (Option Stop) TextHalted → Type 0
 TakesHere state Saves tracing firsts texts Why h0 h1 result =
-    TakesMore state Saves tracing
+    TakesUntil state Saves tracing
     (IsFree h0.machine.flights.settings (public_of h0.machine.engine) firsts)
     (λ old new. IsFree h0.machine.flights.settings (public_of h1.machine.engine) h1.batch new)
     h0.batch h1.batch texts Why h0.tally h1.tally h0.written h1.written h0.traced h1.traced

@@ -1,5 +1,5 @@
 -- What becomes of texts that are served.
-use Rattle.std.specs.Prelude.{◌≡◌, ◌+◌, List, [], ◌∷◌, ◌++◌, length, ⊤, ℕ, Bool, true, false, Option, Result, Ok, Err, IfErr, IfOk, OnOk, OnErr}
+use Rattle.std.specs.Prelude.{◌≡◌, ◌+◌, List, [], ◌∷◌, ◌++◌, length, ℕ, Bool, true, false, Option, None, Some, Result, Ok, Err, IfErr, IfOk, OnOk, OnErr}
 use Rattle.std.specs.Io.KnownBytes.{Consumes, IsAtEnd}
 use Rattle.ob_base.specs.declared.refusal.Stop.{Stop}
 use Rattle.ob_base.specs.declared.refusal.Stop.TheVariants.{InputLimit, NoMemory, SourceFault}
@@ -15,8 +15,6 @@ use Rattle.ob_shell.specs.Running.{EndsBy, IsQuiet, OutFailed, SessionRan, Silen
 use Rattle.ob_shell.specs.Steps.{AreSpelt, Gathered, IsReady, Machine, StopsIn, asked_of, gathered_by, standing}
 use Rattle.ob_shell.specs.Traces.{Traced, TracedAll}
 use Rattle.ob_shell.specs.Waiting.{AreWaiting, BreaksIn, ComesFree, IsClosed, ServedSo}
-use Rattle.ob_shell.specs.declared.session.Break.{Break}
-use Rattle.ob_shell.specs.declared.session.Break.TheVariants.{Served, Unread}
 use Rattle.ob_shell.specs.declared.session.Halted.{Halted}
 use Rattle.ob_shell.specs.declared.session.TextHalted.{TextHalted}
 use Rattle.ob_sql.specs.Skeleton.{skeleton}
@@ -88,21 +86,26 @@ ServesBatch state Saves tracing stmts tally w0 w1 t0 t1 old new m0 m1 result =
     tally (counted_by tally result) w0 w1 t0 t1 old new m0 m1 result
 
 -- the same where a stop may leave what comes next unread, for one of these causes: then no text came behind those that waited
-abbrev pub TakesMore : {R T : Type 0} (state : R → RevState) (Saves : Type 0) (tracing : Bool)
+abbrev pub TakesUntil : {R : Type 0} (state : R → RevState) (Saves : Type 0) (tracing : Bool)
     (May : Gathered → Type 0) (Then : (old new : Gathered) → Type 0)
     (batch0 batch1 : List Stmt) (texts : List (List ℕ)) (Why : Stop → Type 0)
     (tally0 tally1 : Tally)
     (written0 written1 traced0 traced1 : Option (List ℕ)) (old new : Faults)
-    (m0 m1 : Machine R) → Result T Break → Type 0
-TakesMore state Saves tracing May Then batch0 batch1 texts Why tally0 tally1 w0 w1 t0 t1 old new
-    m0 m1 (Ok x) = TakesTexts state Saves tracing May Then batch0 batch1 texts tally0 tally1
-    w0 w1 t0 t1 old new m0 m1 (Ok x)
-TakesMore {T = T} state Saves tracing May Then batch0 batch1 texts Why tally0 tally1 w0 w1 t0 t1
-    old new m0 m1 (Err (Served halted)) = TakesTexts {T = T} state Saves tracing May Then
+    (m0 m1 : Machine R) → Result (Option Stop) TextHalted → Type 0
+TakesUntil state Saves tracing May Then batch0 batch1 texts Why tally0 tally1 w0 w1 t0 t1 old new
+    m0 m1 (Ok (Some stop)) = TakesTexts {T = Option Stop} state Saves tracing May
+    (λ old new. ComesFree m1.flights.settings (public_of m1.engine) batch1 new) batch0 batch1 []
+    tally0 tally1 w0 w1 t0 t1 old new m0 m1 (Ok (Some stop)) × Why stop
+TakesUntil state Saves tracing May Then batch0 batch1 texts Why tally0 tally1 w0 w1 t0 t1 old new
+    m0 m1 (Ok None) = TakesTexts {T = Option Stop} state Saves tracing May Then
+    batch0 batch1 texts tally0 tally1 w0 w1 t0 t1 old new m0 m1 (Ok None)
+TakesUntil state Saves tracing May Then batch0 batch1 texts Why tally0 tally1 w0 w1 t0 t1 old new
+    m0 m1 (Err halted) = TakesTexts {T = Option Stop} state Saves tracing May Then
     batch0 batch1 texts tally0 tally1 w0 w1 t0 t1 old new m0 m1 (Err halted)
-TakesMore state Saves tracing May Then batch0 batch1 texts Why tally0 tally1 w0 w1 t0 t1 old new
-    m0 m1 (Err (Unread stop)) = TakesTexts {T = Unit {0}} state Saves tracing May
-    (λ old new. ComesFree m1.flights.settings (public_of m1.engine) batch1 new) batch0 batch1 [] tally0 tally1 w0 w1 t0 t1 old new m0 m1 (Ok tt) × Why stop
+
+-- nothing was left unread
+abbrev pub WasTaken : Result (Option Stop) TextHalted → Type 0
+WasTaken result = result ≡ Ok None
 
 -- memory is wanting for a text
 abbrev pub WantsRoom : Stop → Type 0
@@ -118,20 +121,20 @@ IsNotTaken pending b _ = ⊥
 -- ---- until no more is read
 -- how the reading ended: at the end of the input, or by its source, a limit or want of memory
 abbrev pub EndsReading : (feed1 : Fetch) (ended : Bool) (bytes : List ℕ) (more : List (List ℕ))
-    → Result (Unit {0}) Stop → Type 0
-EndsReading feed1 ended bytes more (Ok done) = EndsBy feed1 ended bytes more [] (Ok false)
-EndsReading feed1 ended bytes more (Err NoMemory) = Unit {0}
-EndsReading feed1 ended bytes more (Err SourceFault) =
+    → Option Stop → Type 0
+EndsReading feed1 ended bytes more None = EndsBy feed1 ended bytes more [] (Ok false)
+EndsReading feed1 ended bytes more (Some NoMemory) = Unit {0}
+EndsReading feed1 ended bytes more (Some SourceFault) =
     EndsBy feed1 ended bytes more [] (Err SourceFault)
-EndsReading feed1 ended bytes more (Err InputLimit) =
+EndsReading feed1 ended bytes more (Some InputLimit) =
     EndsBy feed1 ended bytes more [] (Err InputLimit)
-EndsReading feed1 ended bytes more (Err _) = ⊥
+EndsReading feed1 ended bytes more (Some _) = ⊥
 
 -- what was read, and of its texts served but for those that wait, until then; those that were whole before the source's last read are among these texts
 pub record HasRead {R : Type 0} (state : R → RevState) (tracing : Bool) (feed0 feed1 : Fetch)
     (left0 left1 : Option (List ℕ)) (gave : ℕ)
     (written0 written1 traced0 traced1 : Option (List ℕ)) (batch : List Stmt) (tally : Tally)
-    (m0 m1 : Machine R) (how : Result (Unit {0}) Stop) : Type 0 where
+    (m0 m1 : Machine R) (left : Option Stop) : Type 0 where
   pub piece : List ℕ
   pub consumed : Consumes left0 left1 piece
   pub taken : feed1.taken ≡ feed0.taken + length piece
@@ -145,38 +148,26 @@ pub record HasRead {R : Type 0} (state : R → RevState) (tracing : Bool) (feed0
   pub so : ServedSo state written0 written1 texts batch
       (ComesFree m1.flights.settings (public_of m1.engine) batch) empty_tally tally m0 m1
   pub traced : TracedAll tracing m0.store.asked m1.store.asked traced0 traced1
-  pub ends : EndsReading feed1 ended (feed0.unread ++ piece) more how
+  pub ends : EndsReading feed1 ended (feed0.unread ++ piece) more left
 
 -- by how it ended: or a text that was served stopped it
-abbrev pub ReadsTexts : {R T : Type 0} (state : R → RevState) (tracing : Bool)
+abbrev pub ReadsTexts : {R : Type 0} (state : R → RevState) (tracing : Bool)
     (feed0 feed1 : Fetch) (left0 left1 : Option (List ℕ)) (gave : ℕ)
     (written0 written1 traced0 traced1 : Option (List ℕ)) (batch : List Stmt) (tally : Tally)
-    (m0 m1 : Machine R) (out0 out1 : ℕ) → Result T Break → Type 0
-ReadsTexts state tracing f0 f1 l0 l1 gave w0 w1 t0 t1 batch tally m0 m1 out0 out1 (Ok x) =
-    HasRead state tracing f0 f1 l0 l1 gave w0 w1 t0 t1 batch tally m0 m1 (Ok tt)
-ReadsTexts state tracing f0 f1 l0 l1 gave w0 w1 t0 t1 batch tally m0 m1 out0 out1
-    (Err (Served halted)) = SessionRan state tracing f0 f1 l0 l1 gave w0 w1 t0 t1 m0 m1
+    (m0 m1 : Machine R) (out0 out1 : ℕ) → Result (Option Stop) TextHalted → Type 0
+ReadsTexts state tracing f0 f1 l0 l1 gave w0 w1 t0 t1 batch tally m0 m1 out0 out1 (Ok left) =
+    HasRead state tracing f0 f1 l0 l1 gave w0 w1 t0 t1 batch tally m0 m1 left
+ReadsTexts state tracing f0 f1 l0 l1 gave w0 w1 t0 t1 batch tally m0 m1 out0 out1 (Err halted) =
+    SessionRan state tracing f0 f1 l0 l1 gave w0 w1 t0 t1 m0 m1
     (OutFailed halted.quiet out0 out1) (Err (session_stop halted.stop))
-ReadsTexts state tracing f0 f1 l0 l1 gave w0 w1 t0 t1 batch tally m0 m1 out0 out1
-    (Err (Unread stop)) =
-    HasRead state tracing f0 f1 l0 l1 gave w0 w1 t0 t1 batch tally m0 m1 (Err stop)
 
 -- so a session ends where none that waited stopped it
-abbrev pub ended_with : Result (Unit {0}) Stop → Tally → Result Tally Stop
-ended_with (Ok done) tally = Ok tally
-ended_with (Err stop) tally = Err stop
-
--- no text that was served stopped it
-abbrev pub UnlessServed : {T : Type 0} → Result T Break → Type 0 → Type 0
-UnlessServed (Ok x) P = P
-UnlessServed (Err (Served halted)) P = ⊤
-UnlessServed (Err (Unread stop)) P = P
+abbrev pub ended_with : Option Stop → Tally → Result Tally Stop
+ended_with None tally = Ok tally
+ended_with (Some stop) tally = Err stop
 
 -- the stop of a text, or that of the reading, behind which a line may be written
-abbrev pub break_halted : Break → Halted
-break_halted (Served halted) = session_halted halted
-break_halted (Unread stop) = record { stop = stop; quiet = false }
-
-abbrev pub broken_of : {T : Type 0} → Result T Break → Result T Halted
-broken_of (Ok x) = Ok x
-broken_of (Err broken) = Err (break_halted broken)
+abbrev pub read_end : Result (Option Stop) TextHalted → Result (Unit {0}) Halted
+read_end (Ok None) = Ok tt
+read_end (Ok (Some stop)) = Err (record { stop = stop; quiet = false })
+read_end (Err halted) = Err (session_halted halted)

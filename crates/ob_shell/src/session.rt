@@ -10,7 +10,7 @@ ghost use Rattle.ob_shell.specs.Feeding.{IsFedBy};
 ghost use Rattle.ob_shell.specs.Running.{IsQuiet, OutFailed, ServesAlone, SessionRan, Silenced, StopCause, halted_of, is_quiet, stop_of};
 ghost use Rattle.ob_shell.specs.Flying.{flights_at};
 ghost use Rattle.ob_shell.specs.Here.{BatchedHere, GoesHere, WaitsHere};
-ghost use Rattle.ob_shell.specs.Serving.{IsNotTaken, ReadsTexts, ServesStmt, UnlessServed, WantsRoom, broken_of};
+ghost use Rattle.ob_shell.specs.Serving.{IsNotTaken, ReadsTexts, ServesStmt, WantsRoom, WasTaken, read_end};
 ghost use Rattle.ob_shell.specs.Steps.{AnswersText, Flights, HasBody, IsApartFrom, IsReady, machine_of, no_flights};
 ghost use Rattle.ob_shell.specs.Tallies;
 ghost use Rattle.ob_shell.specs.Traces.{TracedAll, Traced};
@@ -68,13 +68,6 @@ pub(crate) const SINK_FAILED: TextHalted = TextHalted {
     stop: RunStop::SinkFault,
     quiet: true,
 };
-
-/// Why no further text is served: a stop in one that was served, or behind those that were, what comes next left unread.
-#[derive(Clone, Copy, Debug, PartialEq, Eq)]
-pub enum Break {
-    Served(TextHalted),
-    Unread(Stop),
-}
 
 /// How texts are served: whether their accesses are traced, and how SELECTs fly, if they do.
 #[derive(Clone, Copy, Debug, PartialEq, Eq)]
@@ -295,10 +288,9 @@ pub(crate) fn serve_stmt<R: Revisions, S: BlockStore, B: Behind<S>, K: Sink, T: 
 pub trait Stands {
     type Revs: Revisions;
 
-    ghost use Rattle.std.specs.Prelude.{ℕ, List, Result};
+    ghost use Rattle.std.specs.Prelude.{ℕ, List, Option, Result};
     ghost use Rattle.ob_base.specs.declared.refusal.Stop.{Stop};
     ghost use Rattle.ob_shell.specs.Here.{Here};
-    ghost use Rattle.ob_shell.specs.declared.session.Break.{Break};
     ghost use Rattle.ob_shell.specs.declared.session.Manner.{Manner};
     ghost use Rattle.ob_shell.specs.declared.session.Session.{Session};
     ghost use Rattle.ob_shell.specs.declared.session.TextHalted.{TextHalted};
@@ -310,10 +302,10 @@ pub trait Stands {
     /// It may be given the next text.
     ghost Ready: { Manner → Self → Session → Type 0 };
 
-    /// It took these texts, where the first of these statements goes into nothing that is gathered; or a stop came, for one of
-    /// these causes where no text stopped it.
+    /// It took these texts, where the first of these statements goes into nothing that is gathered, or left them unread for one
+    /// of these causes; or a stop came in one that was served.
     ghost Takes: { Manner → Self → Session → Self → Session → List Stmt → List (List ℕ)
-        → (Stop → Type 0) → Result (Unit {0}) Break → Type 0 };
+        → (Stop → Type 0) → Result (Option Stop) TextHalted → Type 0 };
 
     /// It served those that waited, or a stop came.
     ghost Flushes: { Manner → Self → Session → Self → Session → Result (Unit {0}) TextHalted
@@ -434,8 +426,14 @@ impl<'a, R: Revisions, S: BlockStore, B: Behind<S>, K: Sink, T: Sink, D: Digeste
         }
     }
 
-    // Gives one more statement to those that wait, and serves them once they are as many as are served together.
-    fn gather(&mut self, manner: Manner, session: &mut Session, stmt: Stmt) -> Result<(), Break>
+    // Gives one more statement to those that wait, and serves them once they are as many as are served together. Answers with
+    // the stop for which it is left unread, if it is, as all that take something do.
+    fn gather(
+        &mut self,
+        manner: Manner,
+        session: &mut Session,
+        stmt: Stmt,
+    ) -> Result<Option<Stop>, TextHalted>
         requires spells { Spells session.old.pending (Ok stmt) }
         requires goes { GoesHere (⟦<Self as Stands>⟧.here manner self.old session.old) stmt }
         requires ready { ⟦<Self as Stands>⟧.Ready manner self.old session.old }
@@ -443,23 +441,28 @@ impl<'a, R: Revisions, S: BlockStore, B: Behind<S>, K: Sink, T: Sink, D: Digeste
         ensures pending { session.new.pending ≡ session.old.pending }
         ensures takes { ⟦<Self as Stands>⟧.Takes manner self.old session.old self.new session.new
             (session.old.batch.items ++ stmt ∷ []) (session.old.pending ∷ []) WantsRoom result }
-        ensures ready { UnlessServed result (⟦<Self as Stands>⟧.Ready manner self.new session.new) }
+        ensures ready { OnOk result (⟦<Self as Stands>⟧.Ready manner self.new session.new) }
     {
         let most = gather_most(manner.flight, self.engine.public(), &stmt);
         if session.batch.push(stmt).is_err() {
-            return Err(Break::Unread(Stop::NoMemory));
+            return Ok(Some(Stop::NoMemory));
         }
         if (session.batch.len() as u64) < most {
-            return Ok(());
+            return Ok(None);
         }
         match self.flush(manner, session) {
-            Ok(()) => Ok(()),
-            Err(halted) => Err(Break::Served(halted)),
+            Ok(()) => Ok(None),
+            Err(halted) => Err(halted),
         }
     }
 
     // Serves a statement before which none waits, or lets it wait for the next ones.
-    fn begin(&mut self, manner: Manner, session: &mut Session, stmt: Stmt) -> Result<(), Break>
+    fn begin(
+        &mut self,
+        manner: Manner,
+        session: &mut Session,
+        stmt: Stmt,
+    ) -> Result<Option<Stop>, TextHalted>
         requires spells { Spells session.old.pending (Ok stmt) }
         requires none { session.old.batch.items ≡ [] }
         requires ready { ⟦<Self as Stands>⟧.Ready manner self.old session.old }
@@ -467,7 +470,7 @@ impl<'a, R: Revisions, S: BlockStore, B: Behind<S>, K: Sink, T: Sink, D: Digeste
         ensures pending { session.new.pending ≡ session.old.pending }
         ensures takes { ⟦<Self as Stands>⟧.Takes manner self.old session.old self.new session.new
             (stmt ∷ []) (session.old.pending ∷ []) WantsRoom result }
-        ensures ready { UnlessServed result (⟦<Self as Stands>⟧.Ready manner self.new session.new) }
+        ensures ready { OnOk result (⟦<Self as Stands>⟧.Ready manner self.new session.new) }
     {
         if begins(manner.flight, self.engine, self.store, &stmt) {
             return self.gather(manner, session, stmt);
@@ -486,14 +489,19 @@ impl<'a, R: Revisions, S: BlockStore, B: Behind<S>, K: Sink, T: Sink, D: Digeste
         ) {
             Ok(tally) => {
                 session.tally = tally;
-                Ok(())
+                Ok(None)
             }
-            Err(halted) => Err(Break::Served(halted)),
+            Err(halted) => Err(halted),
         }
     }
 
     // Takes a statement: it goes into the batch of those that wait, or they are served before it.
-    fn take_stmt(&mut self, manner: Manner, session: &mut Session, stmt: Stmt) -> Result<(), Break>
+    fn take_stmt(
+        &mut self,
+        manner: Manner,
+        session: &mut Session,
+        stmt: Stmt,
+    ) -> Result<Option<Stop>, TextHalted>
         requires spells { Spells session.old.pending (Ok stmt) }
         requires waits { WaitsHere (⟦<Self as Stands>⟧.here manner self.old session.old) }
         requires ready { ⟦<Self as Stands>⟧.Ready manner self.old session.old }
@@ -501,19 +509,24 @@ impl<'a, R: Revisions, S: BlockStore, B: Behind<S>, K: Sink, T: Sink, D: Digeste
         ensures pending { session.new.pending ≡ session.old.pending }
         ensures takes { ⟦<Self as Stands>⟧.Takes manner self.old session.old self.new session.new
             session.old.batch.items (session.old.pending ∷ []) WantsRoom result }
-        ensures ready { UnlessServed result (⟦<Self as Stands>⟧.Ready manner self.new session.new) }
+        ensures ready { OnOk result (⟦<Self as Stands>⟧.Ready manner self.new session.new) }
     {
         if goes_along(self.engine.public(), session.batch.as_slice(), &stmt) {
             return self.gather(manner, session, stmt);
         }
         match self.flush(manner, session) {
             Ok(()) => self.begin(manner, session, stmt),
-            Err(halted) => Err(Break::Served(halted)),
+            Err(halted) => Err(halted),
         }
     }
 
     // Answers a text that is no statement, behind those that wait.
-    fn take_misspelt(&mut self, manner: Manner, session: &mut Session, at: u32) -> Result<(), Break>
+    fn take_misspelt(
+        &mut self,
+        manner: Manner,
+        session: &mut Session,
+        at: u32,
+    ) -> Result<Option<Stop>, TextHalted>
         requires spells { Spells session.old.pending (Err at) }
         requires waits { WaitsHere (⟦<Self as Stands>⟧.here manner self.old session.old) }
         requires ready { ⟦<Self as Stands>⟧.Ready manner self.old session.old }
@@ -521,10 +534,10 @@ impl<'a, R: Revisions, S: BlockStore, B: Behind<S>, K: Sink, T: Sink, D: Digeste
         ensures pending { session.new.pending ≡ session.old.pending }
         ensures takes { ⟦<Self as Stands>⟧.Takes manner self.old session.old self.new session.new
             session.old.batch.items (session.old.pending ∷ []) WantsRoom result }
-        ensures ready { UnlessServed result (⟦<Self as Stands>⟧.Ready manner self.new session.new) }
+        ensures ready { OnOk result (⟦<Self as Stands>⟧.Ready manner self.new session.new) }
     {
         if let Err(halted) = self.flush(manner, session) {
-            return Err(Break::Served(halted));
+            return Err(halted);
         }
         let answered = Answered {
             outcome: Outcome::Refused(Refusal::Syntax(at)),
@@ -533,14 +546,18 @@ impl<'a, R: Revisions, S: BlockStore, B: Behind<S>, K: Sink, T: Sink, D: Digeste
         match write_all(self.out, closing_line(answered.outcome).as_bytes()) {
             Ok(()) => {
                 session.tally = tally_with(session.tally, answered);
-                Ok(())
+                Ok(None)
             }
-            Err(Failed) => Err(Break::Served(SINK_FAILED)),
+            Err(Failed) => Err(SINK_FAILED),
         }
     }
 
     // Takes a text that is whole, which stays where it was read.
-    fn take_text(&mut self, manner: Manner, session: &mut Session) -> Result<(), Break>
+    fn take_text(
+        &mut self,
+        manner: Manner,
+        session: &mut Session,
+    ) -> Result<Option<Stop>, TextHalted>
         requires short { length session.old.pending ≤ text_max }
         requires waits { WaitsHere (⟦<Self as Stands>⟧.here manner self.old session.old) }
         requires ready { ⟦<Self as Stands>⟧.Ready manner self.old session.old }
@@ -548,68 +565,75 @@ impl<'a, R: Revisions, S: BlockStore, B: Behind<S>, K: Sink, T: Sink, D: Digeste
         ensures pending { session.new.pending ≡ session.old.pending }
         ensures takes { ⟦<Self as Stands>⟧.Takes manner self.old session.old self.new session.new
             session.old.batch.items (session.old.pending ∷ []) WantsRoom result }
-        ensures ready { UnlessServed result (⟦<Self as Stands>⟧.Ready manner self.new session.new) }
+        ensures ready { OnOk result (⟦<Self as Stands>⟧.Ready manner self.new session.new) }
     {
         match parse(self.alloc, session.pending.text()) {
             Ok(stmt) => self.take_stmt(manner, session, stmt),
             Err(error) => match error {
                 ParseErr::Syntax(at) => self.take_misspelt(manner, session, at),
-                ParseErr::NoMemory => Err(Break::Unread(Stop::NoMemory)),
+                ParseErr::NoMemory => Ok(Some(Stop::NoMemory)),
             },
         }
     }
 
     // Takes one byte, and the text that it ends.
-    fn turn(&mut self, manner: Manner, session: &mut Session, b: u8) -> Result<(), Break>
+    fn turn(
+        &mut self,
+        manner: Manner,
+        session: &mut Session,
+        b: u8,
+    ) -> Result<Option<Stop>, TextHalted>
         requires short { length session.old.pending < text_max }
         requires waits { WaitsHere (⟦<Self as Stands>⟧.here manner self.old session.old) }
         requires ready { ⟦<Self as Stands>⟧.Ready manner self.old session.old }
         ensures keeps { ⟦<Self as Stands>⟧.Keeps self.old self.new }
-        ensures pending { OnOk result ((session.new.pending ≡ rest_after session.old.pending b)
-            × (length session.new.pending < text_max)) }
+        ensures pending { WasTaken result → (session.new.pending ≡ rest_after session.old.pending b)
+            × (length session.new.pending < text_max) }
         ensures takes { ⟦<Self as Stands>⟧.Takes manner self.old session.old self.new session.new
             session.old.batch.items (texts_at session.old.pending b)
             (IsNotTaken session.old.pending b) result }
-        ensures ready { UnlessServed result (⟦<Self as Stands>⟧.Ready manner self.new session.new) }
+        ensures ready { OnOk result (⟦<Self as Stands>⟧.Ready manner self.new session.new) }
     {
         match session.pending.push(b) {
-            Ok(Grown::More) => Ok(()),
+            Ok(Grown::More) => Ok(None),
             Ok(Grown::Whole) => match self.take_text(manner, session) {
-                Ok(()) => {
+                Ok(None) => {
                     session.pending.clear();
-                    Ok(())
+                    Ok(None)
                 }
-                Err(broken) => Err(broken),
+                Ok(Some(stop)) => Ok(Some(stop)),
+                Err(halted) => Err(halted),
             },
-            Err(PushStop::NoMemory) => Err(Break::Unread(Stop::NoMemory)),
-            Err(PushStop::InputLimit) => Err(Break::Unread(Stop::InputLimit)),
+            Err(PushStop::NoMemory) => Ok(Some(Stop::NoMemory)),
+            Err(PushStop::InputLimit) => Ok(Some(Stop::InputLimit)),
         }
     }
 
     // Takes what has come of a text with no end, once no more comes.
-    fn finish(&mut self, manner: Manner, session: &mut Session) -> Result<(), Break>
+    fn finish(&mut self, manner: Manner, session: &mut Session) -> Result<Option<Stop>, TextHalted>
         requires short { length session.old.pending ≤ text_max }
         requires waits { WaitsHere (⟦<Self as Stands>⟧.here manner self.old session.old) }
         requires ready { ⟦<Self as Stands>⟧.Ready manner self.old session.old }
         ensures keeps { ⟦<Self as Stands>⟧.Keeps self.old self.new }
         ensures takes { ⟦<Self as Stands>⟧.Takes manner self.old session.old self.new session.new
             session.old.batch.items (tail_text session.old.pending) WantsRoom result }
-        ensures ready { UnlessServed result (⟦<Self as Stands>⟧.Ready manner self.new session.new) }
+        ensures ready { OnOk result (⟦<Self as Stands>⟧.Ready manner self.new session.new) }
     {
         if !session.pending.has_words() {
-            return Ok(());
+            return Ok(None);
         }
         self.take_text(manner, session)
     }
 
-    // Reads a feed to its end or a stop, and serves the texts that it brings, but for those that wait then.
+    // Reads a feed to its end, or to a stop for which what comes next is left unread, and serves the texts that it brings, but
+    // for those that wait then.
     fn read_texts<I: Source>(
         &mut self,
         manner: Manner,
         session: &mut Session,
         feed: &mut Feed,
         input: &mut I,
-    ) -> Result<(), Break>
+    ) -> Result<Option<Stop>, TextHalted>
         requires none { session.old.batch.items ≡ [] }
         requires fresh { session.old.pending ≡ [] }
         requires uncounted { session.old.tally ≡ empty_tally }
@@ -624,21 +648,21 @@ impl<'a, R: Revisions, S: BlockStore, B: Behind<S>, K: Sink, T: Sink, D: Digeste
             (⟦<Self as Stands>⟧.here manner self.old session.old).machine
             (⟦<Self as Stands>⟧.here manner self.new session.new).machine
             (K.faults self.old.out.now) (K.faults self.new.out.now) result }
-        ensures waits { UnlessServed result
+        ensures waits { OnOk result
             (WaitsHere (⟦<Self as Stands>⟧.here manner self.new session.new)) }
-        ensures ready { UnlessServed result (⟦<Self as Stands>⟧.Ready manner self.new session.new) }
+        ensures ready { OnOk result (⟦<Self as Stands>⟧.Ready manner self.new session.new) }
         ensures within { feed.new.taken ≤ feed.new.limit }
         ensures fed_by { IsFedBy feed.new (I.gave input.new) }
         ensures traced { Traced manner.tracing (S.state self.old.store.now).asked
             (S.state self.new.store.now).asked (T.written self.old.trace.now)
-            (T.written self.new.trace.now) (IsQuiet (broken_of result)) }
+            (T.written self.new.trace.now) (IsQuiet (read_end result)) }
         ensures cause { StopCause (ServesAlone manner.flight (public_of self.old.engine.now))
             (faults_of (I.faults input.old) (K.faults self.old.out.now)
             (T.faults self.old.trace.now))
             (faults_of (I.faults input.new) (K.faults self.new.out.now)
             (T.faults self.new.trace.now))
-            (stop_of (broken_of result)) }
-        ensures quiet { Silenced (is_quiet (broken_of result))
+            (stop_of (read_end result)) }
+        ensures quiet { Silenced (is_quiet (read_end result))
             (faults_of (I.faults input.old) (K.faults self.old.out.now)
             (T.faults self.old.trace.now))
             (faults_of (I.faults input.new) (K.faults self.new.out.now)
@@ -646,15 +670,14 @@ impl<'a, R: Revisions, S: BlockStore, B: Behind<S>, K: Sink, T: Sink, D: Digeste
     {
         'bytes: loop {
             match feed.next(input) {
-                Err(Halt::SourceFault) => return Err(Break::Unread(Stop::SourceFault)),
-                Err(Halt::InputLimit) => return Err(Break::Unread(Stop::InputLimit)),
+                Err(Halt::SourceFault) => return Ok(Some(Stop::SourceFault)),
+                Err(Halt::InputLimit) => return Ok(Some(Stop::InputLimit)),
                 Ok(None) => return self.finish(manner, session),
-                Ok(Some(b)) => {
-                    let turned = self.turn(manner, session, b);
-                    if let Err(broken) = turned {
-                        return Err(broken);
-                    }
-                }
+                Ok(Some(b)) => match self.turn(manner, session, b) {
+                    Ok(None) => {}
+                    Ok(Some(stop)) => return Ok(Some(stop)),
+                    Err(halted) => return Err(halted),
+                },
             }
         }
     }
@@ -699,17 +722,15 @@ impl<'a, R: Revisions, S: BlockStore, B: Behind<S>, K: Sink, T: Sink, D: Digeste
             (faults_of (I.faults input.new) (K.faults self.new.out.now)
             (T.faults self.new.trace.now)) }
     {
-        let read = self.read_texts(manner, session, feed, input);
-        match read {
-            Ok(()) => match self.flush(manner, session) {
-                Ok(()) => Ok(session.tally),
+        match self.read_texts(manner, session, feed, input) {
+            Ok(left) => match self.flush(manner, session) {
+                Ok(()) => match left {
+                    None => Ok(session.tally),
+                    Some(stop) => Err(Halted { stop, quiet: false }),
+                },
                 Err(halted) => Err(Halted::from(halted)),
             },
-            Err(Break::Unread(stop)) => match self.flush(manner, session) {
-                Ok(()) => Err(Halted { stop, quiet: false }),
-                Err(halted) => Err(Halted::from(halted)),
-            },
-            Err(Break::Served(halted)) => Err(Halted::from(halted)),
+            Err(halted) => Err(Halted::from(halted)),
         }
     }
 }

@@ -1,4 +1,4 @@
-use Rattle.ob_shell.proofs.Words.{count_of, flights_of, List, machine_of, public_of, session_stop, Stmt, subst, sym, Tally, ◌∙◌}
+use Rattle.ob_shell.proofs.Words.{count_of, flights_of, List, machine_of, None, Option, public_of, session_stop, Stmt, Stop, subst, sym, Tally, ◌∙◌}
 use Rattle.ob_shell.proofs.CountLemmas.{same_cause}
 use Rattle.ob_shell.proofs.GatherLemmas.{begins_none, begins_so}
 use Rattle.ob_shell.proofs.TakesLemmas.{ready_with, takes_halted, takes_one}
@@ -34,7 +34,7 @@ returns-in-Ok-clause-takes g c =
     let flights = flights_of c.args.manner.flight c.args.session.now.turns.last in
     let not = (begins_none c.args.manner.flight p m c.args.stmt (sym c.begins.ensures ∙ c.if-begins.false)).1 in
     rw c.requires.none
-    (takes_one {m0 = machine_of s.engine.now (g.S.BlockStore.state s.store.now) (g.B.Behind.state s.behind.now) flights} c.args.stmt c.args.session.now.tally c.args.session.now.pending c.requires.spells tt c.in-Ok.tally not (c.in-Ok.ensures.serves flights) c.in-Ok.ensures.traced)
+    (takes_one {m0 = machine_of s.engine.now (g.S.BlockStore.state s.store.now) (g.B.Behind.state s.behind.now) flights} c.args.stmt c.args.session.now.tally c.args.session.now.pending c.requires.spells None c.in-Ok.tally not (c.in-Ok.ensures.serves flights) c.in-Ok.ensures.traced)
 
 pub returns-clause-takes : goal.returns-clause-takes
 returns-clause-takes g c =
@@ -43,7 +43,7 @@ returns-clause-takes g c =
     let serves = c.in-Err.ensures.serves flights in
     rw c.requires.none
     (takes_halted {m0 = machine_of s.engine.now (g.S.BlockStore.state s.store.now) (g.B.Behind.state s.behind.now) flights} c.args.stmt c.args.session.now.tally c.args.session.now.pending c.requires.spells c.in-Err.halted
-    (same_cause _ Tally (Unit {0}) (session_stop c.in-Err.halted.stop) _ _ serves.cause) serves c.in-Err.ensures.traced_stop)
+    (same_cause _ Tally (Option Stop) (session_stop c.in-Err.halted.stop) _ _ serves.cause) serves c.in-Err.ensures.traced_stop)
 
 pub returns-in-Ok-clause-ready : goal.returns-in-Ok-clause-ready
 returns-in-Ok-clause-ready g c = record { ready = (c.in-Ok.ensures.serves (flights_of c.args.manner.flight c.args.session.now.turns.last)).ready; took = c.in-Ok.ensures.took }

@@ -1,4 +1,4 @@
-use Rattle.ob_shell.proofs.Words.{count_of, Err, flights_of, Gathered, inl, machine_of, Ok, Outputs-fault, public_of, refl, session_stop, true, [], ◌∙◌, ◌∷◌}
+use Rattle.ob_shell.proofs.Words.{count_of, Err, flights_of, Gathered, inl, machine_of, None, Ok, Option, Outputs-fault, public_of, refl, session_stop, Stop, true, [], ◌∙◌, ◌∷◌}
 use Rattle.ob_shell.proofs.CountLemmas.{same_cause}
 use Rattle.ob_shell.proofs.GatherLemmas.{are_batched, comes_free}
 use Rattle.ob_shell.proofs.TakesLemmas.{comes_by, loses_misspelt, takes_broken, takes_misspelt, takes_then}
@@ -13,7 +13,7 @@ flush-requires-clause-waits g c =
 pub returns-in-Err-clause-takes : goal.returns-in-Err-clause-takes
 returns-in-Err-clause-takes g c =
     takes_broken c.in-Err.halted (c.args.session.now.pending ∷ []) (λ h free. comes_free c.args.manner.flight (public_of c.args.self.now.engine.now) c.args.session.now.batch.items h free)
-    (same_cause _ (Unit {0}) (Unit {0}) (session_stop c.in-Err.halted.stop) _ _ c.in-Err.ensures.flushes.cause) c.in-Err.ensures.flushes
+    (same_cause _ (Unit {0}) (Option Stop) (session_stop c.in-Err.halted.stop) _ _ c.in-Err.ensures.flushes.cause) c.in-Err.ensures.flushes
 
 pub returns-in-Ok-clause-takes : goal.returns-in-Ok-clause-takes
 returns-in-Ok-clause-takes g c =
@@ -22,8 +22,8 @@ returns-in-Ok-clause-takes g c =
     let line = c.as_bytes.ensures ∙ c.closing_line.ensures in
     let m = machine_of c.flush.new.self.engine.now (g.S.BlockStore.state c.flush.new.self.store.now) (g.B.Behind.state c.flush.new.self.behind.now) (flights_of c.args.manner.flight c.flush.new.session.turns.last) in
     rw (c.in_default.ensures.none, c.tally_with-session.ensures)
-    (takes_then flushed (λ h k free closed. tt {0}) (c.args.session.now.pending ∷ []) (Ok tt) (λ h k l free closed then. then)
-    (takes_misspelt c.args.manner.tracing {May = λ (h : Gathered). Unit {0}} _ m refl c.args.session.now.pending c.args.at c.requires.spells _ (tt {0}) flushed.ready (record { source = refl; out = c.in-Ok.ensures.cause.kept; trace = refl }) (rw line at c.in-Ok.ensures.ok) (c.in-Ok.ensures.cause.kept, refl)))
+    (takes_then flushed (λ h k free closed. tt {0}) (c.args.session.now.pending ∷ []) (Ok None) (λ h k l free closed then. then)
+    (takes_misspelt c.args.manner.tracing {May = λ (h : Gathered). Unit {0}} _ m refl c.args.session.now.pending c.args.at c.requires.spells _ None flushed.ready (record { source = refl; out = c.in-Ok.ensures.cause.kept; trace = refl }) (rw line at c.in-Ok.ensures.ok) (c.in-Ok.ensures.cause.kept, refl)))
 
 pub returns-in-Err-write_all-clause-takes : goal.returns-in-Err-write_all-clause-takes
 returns-in-Err-write_all-clause-takes g c =
