@@ -153,10 +153,10 @@ pub record BeganSaved (config : Config) (secret salt : List ℕ) (keys : KeySet)
   pub traced : Appends traced0 traced1 (traced tracing base.before)
 
 -- ---- why a run didn't begin
--- the mark is fresh, but the store has regions, or couldn't say whether it has
+-- the mark is fresh, but the store has regions, if it tells what it has, or couldn't say whether it has
 pub record IsNotBare (ending : KeptEnding) (old new : StoreState) : Type 0 where
   pub syncs : Syncs old new
-  pub why : ((ending ≡ NoMark) × (new.faults ≡ old.faults))
+  pub why : ((ending ≡ NoMark) × (new.faults ≡ old.faults) × (IsTrue old.tells → IsBare old → ⊥))
       ⊎ ((ending ≡ StoreFault) × Rises old.faults new.faults)
 
 -- it ends at the mark, before a salt is drawn
