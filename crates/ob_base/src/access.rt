@@ -1,3 +1,5 @@
+//! Calls on a block store.
+
 /// One call on a block store, as somebody who watches the store sees it.
 ///
 /// `region` is the number of a region, `place` the index of a block in it, `blocks` the number of its

@@ -1,3 +1,4 @@
+//! What a session is set to, and what is public of it.
 use crate::items::Items;
 use crate::schema::Table;
 

@@ -1,3 +1,4 @@
+//! Failed calls and want of memory, which all crates share.
 use thiserror::Error;
 
 /// A call to the outside that failed, as one on a store, a source or a sink.

@@ -1,3 +1,4 @@
+//! Vectors that contracts see as lists.
 ghost use Rattle.std.specs.Prelude.{◌≡◌, [], ◌∷◌, ◌++◌, OnOk, OnErr, MatchOption};
 
 use crate::fault::NoMemory;

@@ -1,3 +1,5 @@
+//! Why statements are refused, and sessions stop.
+
 /// Why a statement was not carried out. The tables are as they were, and the session goes on.
 #[derive(Clone, Copy, Debug, PartialEq, Eq)]
 pub enum Refusal {

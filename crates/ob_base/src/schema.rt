@@ -1,3 +1,4 @@
+//! Columns and tables.
 ghost use Rattle.std.specs.Prelude.{◌≡◌, ◌<◌, ◌≤◌, List, [], ◌∷◌, ◌++◌, length};
 
 use crate::text::Name;

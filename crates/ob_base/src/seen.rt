@@ -1,3 +1,4 @@
+//! What a watcher learns of a statement.
 use crate::config::Plan;
 
 /// How the accesses of a statement end.

@@ -1,3 +1,4 @@
+//! Fields of printed rows.
 use crate::text::Text;
 
 /// A field of a printed row. A sum of 64-bit integers fits.

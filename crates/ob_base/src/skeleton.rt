@@ -1,3 +1,4 @@
+//! Statements without their literals and conditions.
 use crate::items::Items;
 use crate::schema::Shape;
 use crate::text::Name;

@@ -1,3 +1,4 @@
+//! Names, texts of cells and labels, each of a fixed capacity.
 ghost use Rattle.std.specs.Prelude.{◌≡◌, ◌≤◌, length};
 ghost use Rattle.ob_base.specs.Texts.{IsPrintable};
 

@@ -1,3 +1,4 @@
+//! The pass that puts each selected row to its place.
 ghost use Rattle.std.specs.Prelude.{◌≡◌, ◌+◌, ◌*◌, length};
 ghost use Rattle.ob_script.specs.Parts.{slots_in};
 ghost use Rattle.ob_row.specs.Truth.{is_true};

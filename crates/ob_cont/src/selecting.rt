@@ -1,3 +1,4 @@
+//! The operator Continuous: a result whose rows lie as the selected ones do.
 ghost use Rattle.std.specs.Prelude.{◌≡◌, ◌≤◌, ◌*◌, max, length};
 ghost use Rattle.ob_base.specs.Schemas.{width};
 ghost use Rattle.ob_row.specs.Truth.{is_true};

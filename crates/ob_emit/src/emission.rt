@@ -1,3 +1,4 @@
+//! The emission of a whole table.
 ghost use Rattle.std.specs.Prelude.{◌≡◌, max, length};
 ghost use Rattle.ob_base.specs.Schemas.{width};
 ghost use Rattle.ob_vault.specs.Places.{at};

@@ -1,3 +1,4 @@
+//! Headers of answers.
 ghost use Rattle.std.specs.Prelude.{◌≡◌, ◌≤◌, ◌+◌, ◌++◌, not, bytes_eq, length, take};
 ghost use Rattle.std.specs.List.{list_any};
 ghost use Rattle.ob_base.specs.declared.schema.Column.{Column as TableColumn};

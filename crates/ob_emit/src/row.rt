@@ -1,3 +1,4 @@
+//! Cells of a row as they are printed.
 ghost use Rattle.std.specs.Prelude.{◌≡◌, ◌≤◌, ◌<◌, Some, length, take};
 ghost use Rattle.std.specs.List.{All};
 ghost use Rattle.ob_base.specs.Schemas.{width};

@@ -1,3 +1,4 @@
+//! The emission of a block's slots.
 ghost use Rattle.std.specs.Prelude.{◌≡◌, ◌≤◌, ◌<◌, ◌+◌, length};
 ghost use Rattle.std.specs.List.{All};
 ghost use Rattle.ob_base.specs.Schemas.{width};

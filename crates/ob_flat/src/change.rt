@@ -1,3 +1,4 @@
+//! What a pass that writes a table anew makes of its slots.
 ghost use Rattle.std.specs.Prelude.{◌≡◌, ◌≤◌, ◌<◌, ◌+◌, ℕ, Bool, false, Option, None, IfOk, OnOk, MatchResult, length, count_by};
 ghost use Rattle.ob_base.specs.Schemas.{Columns, width};
 ghost use Rattle.ob_vault.specs.Rows.{SameSizes, Wide};

@@ -1,3 +1,4 @@
+//! Malformed rows are refused.
 ghost use Rattle.std.specs.Prelude.{OnOk, OnErr};
 ghost use Rattle.ob_base.specs.Schemas.{width};
 ghost use Rattle.ob_vault.specs.Rows.{Wide};

@@ -1,3 +1,4 @@
+//! Rows that are copied, or made dummies.
 ghost use Rattle.std.specs.Prelude.{◌≡◌, ◌≤◌, ◌<◌, ◌++◌, ℕ, Option, None, length, drop, replicate};
 ghost use Rattle.ob_base.specs.Schemas.{Columns, width};
 ghost use Rattle.ob_vault.specs.Rows.{SameSizes, Wide, row_at};

@@ -1,3 +1,4 @@
+//! Regions of tables, made and filled.
 ghost use Rattle.std.specs.Prelude.{◌≡◌, ◌≤◌, ◌<◌, ◌+◌, ◌/◌, ◌^◌, max, length};
 ghost use Rattle.ob_base.specs.Numbers.{blocks_for};
 ghost use Rattle.ob_base.specs.Schemas.{width};

@@ -1,3 +1,4 @@
+//! Why a pass gave up.
 use ob_vault::VaultErr;
 use thiserror::Error;
 

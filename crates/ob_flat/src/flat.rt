@@ -1,3 +1,4 @@
+//! A table in its region.
 ghost use Rattle.ob_vault.specs.declared.region.Region.{Region};
 ghost use Rattle.ob_vault.specs.Tied.{Lives};
 ghost use Rattle.ob_vault.specs.Places.{at};

@@ -1,3 +1,4 @@
+//! Blocks that are changed in place.
 ghost use Rattle.std.specs.Prelude.{◌≤◌, ◌<◌, ◌+◌, ◌^◌, ℕ, OnOk, MatchResult, length};
 ghost use Rattle.ob_base.specs.Schemas.{Columns, width};
 ghost use Rattle.ob_vault.specs.Numbers.{spent};

@@ -1,3 +1,4 @@
+//! What a reading pass does with slots.
 ghost use Rattle.std.specs.Prelude.{◌≡◌, ◌≤◌, ◌<◌, ◌+◌, ℕ, Option, OnOk, MatchResult, length};
 ghost use Rattle.ob_base.specs.Schemas.{width};
 ghost use Rattle.ob_vault.specs.Rows.{Wide};

@@ -1,3 +1,4 @@
+//! Counts of answered statements.
 ghost use Rattle.std.specs.Prelude.{◌≡◌};
 ghost use Rattle.ob_gen.specs.Tally.{empty_tally, with_answer, with_plan};
 

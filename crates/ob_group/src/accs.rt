@@ -1,3 +1,4 @@
+//! Totals as they are printed.
 ghost use Rattle.std.specs.Prelude.{◌≡◌, ◌≤◌, map, length};
 ghost use Rattle.ob_group.specs.Running.{total_shown};
 

@@ -1,3 +1,4 @@
+//! Answers of groups and of totals.
 ghost use Rattle.std.specs.Prelude.{◌≡◌, ◌≤◌, ◌<◌, [], length};
 ghost use Rattle.ob_row.specs.Spelling.{kind_at};
 ghost use Rattle.ob_group.specs.Held.{IsGroup, HasGroups};

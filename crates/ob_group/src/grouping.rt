@@ -1,3 +1,4 @@
+//! GROUP BY: a group in an open row each.
 ghost use Rattle.std.specs.Prelude.{◌≡◌, ◌≤◌, max, length};
 ghost use Rattle.ob_base.specs.Limits.{buffered};
 ghost use Rattle.ob_base.specs.Schemas.{width};

@@ -1,3 +1,4 @@
+//! Labels of grouped answers.
 ghost use Rattle.std.specs.Prelude.{◌≡◌, ◌≤◌, ◌+◌, ◌++◌, length, map, take};
 ghost use Rattle.ob_base.specs.Labels.{call_label};
 ghost use Rattle.ob_flat.specs.Emission.{Takes};

@@ -1,3 +1,4 @@
+//! A block's rows, put to their groups.
 ghost use Rattle.std.specs.Prelude.{◌≡◌, ◌≤◌, IfOk, length};
 ghost use Rattle.ob_base.specs.Schemas.{width};
 ghost use Rattle.ob_vault.specs.Rows.{Wide};

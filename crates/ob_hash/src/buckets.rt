@@ -1,3 +1,4 @@
+//! The two buckets of a row, read and written.
 ghost use Rattle.std.specs.Prelude.{◌<◌, ◌*◌, length};
 ghost use Rattle.ob_vault.specs.Places.{at};
 ghost use Rattle.ob_vault.specs.Rows.{SameSizes};

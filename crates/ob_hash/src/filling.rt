@@ -1,3 +1,4 @@
+//! A row that waits for an empty slot.
 ghost use Rattle.std.specs.Prelude.{◌≡◌, ◌≤◌, ◌&&◌, Option, OnOk, MatchResult, is_some, length};
 ghost use Rattle.ob_base.specs.Schemas.{width};
 ghost use Rattle.ob_row.specs.Rows.{Row};

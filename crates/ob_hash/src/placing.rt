@@ -1,3 +1,4 @@
+//! A block's rows, shown to their buckets.
 ghost use Rattle.std.specs.Prelude.{◌≡◌, length};
 ghost use Rattle.ob_vault.specs.Places.{at};
 ghost use Rattle.ob_vault.specs.Rows.{SameSizes};

@@ -1,3 +1,4 @@
+//! The operator Hash: each row in one of its two buckets.
 ghost use Rattle.std.specs.Prelude.{◌≡◌, ◌*◌, max, length};
 ghost use Rattle.ob_base.specs.Schemas.{width};
 ghost use Rattle.ob_vault.specs.Places.{at};

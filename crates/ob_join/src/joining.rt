@@ -1,3 +1,4 @@
+//! Pairs of rows with equal fields.
 ghost use Rattle.std.specs.Prelude.{◌≡◌, ◌≤◌, ◌<◌, ◌+◌, ◌++◌, ◌↔◌, IsTrue, Option, Some, IfSome, IfNone, OnOk, MatchResult, length, take, drop};
 ghost use Rattle.ob_base.specs.declared.schema.Kind.{Kind as ColumnKind};
 ghost use Rattle.ob_base.specs.Schemas.{kind_width, width};

@@ -1,3 +1,4 @@
+//! The two tables of a join.
 use ob_flat::Flat;
 
 // The two tables of a join, the columns that are equal, and how many left blocks are kept at once.

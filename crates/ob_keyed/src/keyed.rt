@@ -1,3 +1,4 @@
+//! What comes of a statement on an index.
 use ob_oram::{Got, OramErr};
 
 /// What came of a statement's access: the leaf of its key, which a watcher sees, and its answer.

@@ -1,3 +1,4 @@
+//! What the two passes of Large make of slots.
 ghost use Rattle.std.specs.Prelude.{◌≡◌};
 
 use ob_base::Schema;

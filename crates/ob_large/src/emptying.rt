@@ -1,3 +1,4 @@
+//! The second pass of Large.
 ghost use Rattle.std.specs.Prelude.{◌*◌, length};
 ghost use Rattle.ob_vault.specs.Places.{at};
 ghost use Rattle.ob_vault.specs.Tied.{IsOwn};

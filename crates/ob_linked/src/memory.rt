@@ -1,3 +1,4 @@
+//! Buckets in memory.
 use crate::version::Version;
 use crate::writing::{Buckets, Failed};
 

@@ -1,3 +1,4 @@
+//! Answers of statements.
 use ob_base::{Items, Refusal, Shown};
 
 /// What a statement answers.

@@ -1,3 +1,4 @@
+//! Blocks of one length.
 ghost use Rattle.std.specs.Prelude.{◌≡◌, ◌<◌, ◌≤◌, ◌*◌, length, vec_len};
 ghost use Rattle.ob_meddle.specs.Flips.{flipped};
 

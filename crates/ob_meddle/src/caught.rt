@@ -1,3 +1,4 @@
+//! The first read that gave other bytes than were written.
 ghost use Rattle.std.specs.Prelude.{◌≡◌, ◌≤◌, length, take};
 
 use crate::blocks::LONGEST;

@@ -1,3 +1,4 @@
+//! Which accesses fail, and which regions are copied from, by a list of changes.
 ghost use Rattle.std.specs.Prelude.{◌≡◌, ◌==◌, ◌&&◌};
 ghost use Rattle.ob_meddle.specs.Due.{is_fail, fails_at, copies_from, is_source};
 

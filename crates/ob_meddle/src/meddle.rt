@@ -1,3 +1,5 @@
+//! Changes that others make in a store.
+
 /// A change that others make in a store: what they do, just before which access, counted from 1.
 #[derive(Clone, Copy, Debug, PartialEq, Eq)]
 pub struct Meddle {

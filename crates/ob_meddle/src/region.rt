@@ -1,3 +1,4 @@
+//! A region's blocks as they were written, and as they stand.
 ghost use Rattle.std.specs.Prelude.{◌≡◌, vec_len};
 
 use crate::blocks::Blocks;

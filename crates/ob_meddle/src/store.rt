@@ -1,3 +1,4 @@
+//! A store in memory that others change.
 ghost use Rattle.std.specs.Prelude.{◌≡◌, ◌+◌, ◌++◌, ◌∷◌, ◌<◌, ◌≤◌, ℕ, [], None, refl, true, false, length, if◌then◌else◌, is_err, not, ◌&&◌};
 ghost use Rattle.std.specs.Ordering.{nat_cmp};
 ghost use Rattle.std.specs.BTreeMap.{get};

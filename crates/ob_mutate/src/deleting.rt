@@ -1,3 +1,4 @@
+//! DELETE.
 ghost use Rattle.std.specs.Prelude.{◌≡◌, ◌+◌, ◌*◌, max};
 ghost use Rattle.ob_base.specs.Schemas.{width};
 ghost use Rattle.ob_vault.specs.Places.{at};

@@ -1,3 +1,4 @@
+//! INSERT of one row.
 ghost use Rattle.std.specs.Prelude.{◌≡◌, ◌≢◌, ◌+◌, ◌*◌, max, Option, None, length, is_some, if◌then◌else◌};
 ghost use Rattle.ob_base.specs.Schemas.{width};
 ghost use Rattle.ob_vault.specs.Places.{at};

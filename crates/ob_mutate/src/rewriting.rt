@@ -1,3 +1,4 @@
+//! The pass that moves a table to a fresh region.
 ghost use Rattle.std.specs.Prelude.{◌≡◌, ◌≤◌, ◌+◌, ◌*◌, max, ℕ, None, length, count_by};
 ghost use Rattle.ob_base.specs.Schemas.{width};
 ghost use Rattle.ob_vault.specs.Places.{at};

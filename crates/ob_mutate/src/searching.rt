@@ -1,3 +1,4 @@
+//! The pass that looks for an empty slot and a primary key.
 ghost use Rattle.std.specs.Prelude.{◌≡◌, ◌≤◌, ◌<◌, Option, Some, Ok, IfSome, length};
 ghost use Rattle.std.specs.List.{position};
 ghost use Rattle.ob_base.specs.declared.schema.Column.{Column as TableColumn};

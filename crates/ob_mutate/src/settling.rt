@@ -1,3 +1,4 @@
+//! The region in which a table lay.
 ghost use Rattle.std.specs.Prelude.{◌≡◌};
 ghost use Rattle.ob_vault.specs.declared.region.Region.{Region};
 ghost use Rattle.ob_vault.specs.Tied.{Lives};

@@ -1,3 +1,4 @@
+//! An index, made with all its keys.
 ghost use Rattle.std.specs.Prelude.{◌≡◌, ◌≤◌, ◌<◌, ◌+◌, ◌*◌, ℕ, Option, None, max, length, replicate, IfOk, IfErr, IfSome, map};
 ghost use Rattle.std.specs.List.{position};
 ghost use Rattle.ob_base.specs.declared.schema.Column.{Column as TableColumn};

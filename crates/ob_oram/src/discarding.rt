@@ -1,3 +1,4 @@
+//! An index, taken out of the store.
 ghost use Rattle.ob_vault.specs.Places.{at};
 ghost use Rattle.ob_flat.specs.Words.{HasSpare};
 ghost use Rattle.ob_oram.specs.Indexes.{IsStored};

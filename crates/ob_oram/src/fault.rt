@@ -1,3 +1,4 @@
+//! Why an access of an index stopped.
 use thiserror::Error;
 
 /// Why an access stopped: the store failed; a block was not what was last written to its place; or more rows are

@@ -1,3 +1,5 @@
+//! Rows that lie open during an access.
+
 /// A row that lies open: its key, and its key's leaf.
 #[derive(Clone, Copy, Debug, PartialEq, Eq)]
 pub struct Held {

@@ -1,3 +1,4 @@
+//! An index: a tree of buckets, a stash and the leaves of the keys.
 use crate::held::Held;
 use ob_base::Schema;
 

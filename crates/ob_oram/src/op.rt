@@ -1,3 +1,4 @@
+//! What an access does with its key's row.
 use arrayvec::ArrayVec;
 use ob_row::Cell;
 use std::marker::Model;

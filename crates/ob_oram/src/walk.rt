@@ -1,3 +1,4 @@
+//! The blocks of an access, in order.
 ghost use Rattle.std.specs.Prelude.{◌≡◌, ◌<◌};
 ghost use Rattle.ob_oram.specs.Walks.{IsWalk, blocks_in, place_in, slot_in};
 

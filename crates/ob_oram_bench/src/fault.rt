@@ -1,3 +1,4 @@
+//! Why the program ended early.
 use ob_flat::OpErr;
 use ob_oram::OramErr;
 use std::alloc::AllocError;

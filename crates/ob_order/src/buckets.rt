@@ -1,3 +1,4 @@
+//! Places of rows in buckets of their fields' hashes.
 ghost use Rattle.std.specs.Prelude.{◌≡◌, ◌<◌, ◌+◌, ◌%◌, ◌*◌, ◌/◌, ◌^◌, ℕ, List, [], length, replicate, slice_index_or, IfOk, IfSome, IfNone};
 ghost use Rattle.ob_order.specs.Orders.{field_at};
 ghost use Rattle.ob_order.specs.Buckets.{hash_of, bucket_of, AreBucketed, IsOnly, NoneHas};

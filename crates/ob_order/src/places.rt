@@ -1,3 +1,4 @@
+//! How places of rows are compared and sorted.
 ghost use Rattle.std.specs.Prelude.{◌≡◌, ◌≤◌, ◌<◌, ◌^◌, [], ℕ, true, false, vec_capacity, length, slice_index_or, take, drop, IfSome, IfNone};
 ghost use Rattle.std.specs.List.{Contains};
 ghost use Rattle.std.specs.List.Sorted.{IsPermutation, IsPartitionPoint};

@@ -1,3 +1,4 @@
+//! Lines that are built in place.
 ghost use Rattle.std.specs.Prelude.{◌≡◌, ◌+◌, ◌≤◌, ℕ, List, ◌++◌, length, codes, decimal};
 ghost use Rattle.ob_print.specs.Lines;
 

@@ -1,3 +1,4 @@
+//! Bytes that wait for their sink.
 ghost use Rattle.std.specs.Prelude.{◌≡◌, ◌+◌, ◌≤◌, [], length, IsErr, IsOk};
 ghost use Rattle.ob_io.specs.Causes.{HasCause};
 ghost use Rattle.ob_print.specs.Cuts.{Outputs};

@@ -1,3 +1,4 @@
+//! Answers as lines of CSV.
 ghost use Rattle.std.specs.Prelude.{◌≡◌, map, IsErr};
 ghost use Rattle.csv.specs.Writing.{row_text};
 ghost use Rattle.ob_base.specs.Events.{EmitCause};

@@ -1,3 +1,4 @@
+//! Bytes that are written whole.
 ghost use Rattle.std.specs.Prelude.{◌≡◌, ◌<◌, [], OnOk, IsErr, IsOk};
 ghost use Rattle.std.specs.Io.KnownBytes.{Appends};
 ghost use Rattle.ob_io.specs.Causes.{HasCause};

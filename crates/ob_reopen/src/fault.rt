@@ -1,3 +1,4 @@
+//! Why an engine was not opened or closed.
 ghost use Rattle.std.specs.Prelude.{◌≡◌};
 ghost use Rattle.ob_reopen.specs.Writings.{close_error};
 

@@ -1,3 +1,4 @@
+//! What keeps a mark, and draws salts.
 ghost use Rattle.ob_reopen.specs.Keepers.{KeeperState, DrawsSalt, IsMark, GivesMark, SetsMark};
 
 use crate::mark::Mark;

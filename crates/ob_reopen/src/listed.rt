@@ -1,3 +1,4 @@
+//! A table as a closing lists it.
 use ob_base::Table;
 
 /// A table as a closing lists it: the first block of its region was last written under this number, and the

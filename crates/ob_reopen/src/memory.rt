@@ -1,3 +1,4 @@
+//! A keeper in memory.
 ghost use Rattle.std.specs.Prelude.{◌≡◌, ◌≤◌, [], OnErr};
 ghost use Rattle.ob_reopen.specs.Keepers.{DrawsSalt, IsMark, GivesMark, SetsMark, CountsFault, Calls, told_by};
 

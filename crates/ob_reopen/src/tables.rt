@@ -1,3 +1,4 @@
+//! Listed tables, live again.
 ghost use Rattle.std.specs.Prelude.{◌≤◌, ◌<◌, ◌+◌, ◌^◌, length};
 ghost use Rattle.ob_vault.specs.Numbers.{spent};
 ghost use Rattle.ob_vault.specs.Places.{at};

@@ -1,3 +1,4 @@
+//! Closings, written.
 ghost use Rattle.std.specs.Prelude.{◌≡◌, ◌<◌, ◌≤◌, ◌+◌, ◌-◌, ◌^◌, max, length, take};
 ghost use Rattle.std.specs.List.{All};
 ghost use Rattle.ob_blocks.specs.Idle.{IsIdle};

@@ -1,3 +1,4 @@
+//! The trusted buffer of rows.
 ghost use Rattle.std.specs.Prelude.{◌≡◌, [], ◌∷◌, ◌++◌, ◌+◌, ◌-◌, ◌≤◌, ◌<◌, max, length, IfOk, MatchOption, replicate, slice_index_or};
 ghost use Rattle.std.specs.Borrow.{sem};
 ghost use Rattle.ob_room.specs.RoomState.{RoomState, out, clear};

@@ -1,3 +1,5 @@
+//! Aggregates, and items of grouped answers.
+
 /// An aggregate over rows; a column is named by its place.
 #[derive(Clone, Copy, Debug, PartialEq, Eq)]
 pub enum Agg {

@@ -1,3 +1,4 @@
+//! Values of a row.
 ghost use Rattle.std.specs.Prelude.{◌≡◌};
 
 use ob_base::Text;

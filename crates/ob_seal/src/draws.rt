@@ -1,5 +1,4 @@
-// Draws, from the key stream of a seed.
-
+//! Draws, from the key stream of a seed.
 ghost use Rattle.std.specs.Prelude.{◌≡◌, ◌+◌, ◌%◌, ◌^◌};
 ghost use Rattle.rand_chacha.specs.ChaCha.{key_of};
 ghost use Rattle.ob_seal.specs.Draws.{draw_at};

@@ -1,3 +1,4 @@
+//! Keys of regions, and of spans of write numbers.
 use ob_hmac::MacKey;
 
 /// The cipher key and the tag key of a region, and the salt of its run, if that had one, with its check value.

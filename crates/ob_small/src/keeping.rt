@@ -1,3 +1,4 @@
+//! A block's selected rows, kept.
 ghost use Rattle.std.specs.Prelude.{◌≤◌, ◌+◌, length};
 ghost use Rattle.ob_base.specs.Schemas.{width};
 ghost use Rattle.ob_vault.specs.Rows.{SameSizes, Wide};

@@ -1,3 +1,4 @@
+//! The operator Small: as many passes as the kept rows take.
 ghost use Rattle.std.specs.Prelude.{◌≡◌, ◌≤◌, ◌+◌, ◌*◌, max, length};
 ghost use Rattle.ob_base.specs.Limits.{buffered_blocks};
 ghost use Rattle.ob_base.specs.Schemas.{width};

@@ -1,3 +1,4 @@
+//! Kept rows, written.
 ghost use Rattle.std.specs.Prelude.{◌≤◌, ◌+◌, length};
 ghost use Rattle.ob_vault.specs.Places.{at};
 ghost use Rattle.ob_vault.specs.Words.{MayAsk};

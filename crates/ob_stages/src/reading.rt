@@ -1,3 +1,4 @@
+//! A SELECT of totals in flight, while it reads.
 ghost use Rattle.std.specs.Prelude.{◌≡◌, ◌≤◌, ◌<◌, ◌+◌, true, Some};
 ghost use Rattle.ob_stages.specs.Reading.{StartsReading, is_over, reads_left, served_of};
 

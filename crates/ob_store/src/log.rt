@@ -1,3 +1,4 @@
+//! The list of a store's accesses.
 ghost use Rattle.std.specs.Prelude.{◌≡◌, ◌<◌, ◌≤◌, ◌+◌, ◌++◌, ◌∷◌, [], length, slice_get, OnOk, Some};
 ghost use Rattle.ob_store.specs.Logs.{asked_of, added};
 

@@ -1,3 +1,4 @@
+//! Accesses as runs.
 ghost use Rattle.std.specs.Prelude.{◌≡◌, ◌+◌, ◌-◌, ◌<◌, ◌≤◌, ◌^◌, ◌==◌, ◌++◌, ◌∷◌, [], length, slice_get, slice_range, OnOk, vec_len, vec_capacity};
 ghost use Rattle.ob_store.specs.Logs.{RunsState, spelt, added, raised, entry, is_block, is_raised, is_next, is_turn, comes_round, joins};
 ghost use Rattle.ob_store.specs.Kept.{runs_of, place_of, IsLog, start_of};

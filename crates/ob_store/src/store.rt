@@ -1,3 +1,4 @@
+//! The store that is not trusted: what it may be asked, and what it owes.
 ghost use Rattle.std.specs.Prelude.{◌≡◌, ◌⊎◌, ◌<◌, ◌≤◌, ℕ, Option, IsTrue, [], Some, None, length, slice_get, true, IfOk, OnOk, OnErr};
 ghost use Rattle.ob_store.specs.State.{KeptRegion, Shape, StoreState};
 ghost use Rattle.ob_store.specs.declared.given.GivenUp.{GivenUp as LastGivenUp};

@@ -1,3 +1,4 @@
+//! The generated text, its summary and digests.
 use ob_base::{Failed, Plan};
 use ob_gen::{Digester, Discard, Generated, Summary, Tally, TraceDigest};
 use ob_io::{MemSink, Sink, Source};

@@ -1,3 +1,4 @@
+//! Printed answers, pieces and lines.
 use ob_base::{Access, Emit, Failed, Label, Refusal, Shown, Stop, Text};
 use ob_io::MemSink;
 use ob_print::{Pieces, Printer, RecordLine, access_line, refusal_line, stop_line};

@@ -1,3 +1,4 @@
+//! Sources and sinks.
 use ob_base::Failed;
 use ob_io::{MemSink, MemSource, Sink, Source, StdSink, StdSource};
 use std::test::Fail;

@@ -1,3 +1,5 @@
+//! Regions of an earlier run.
+
 /// A region of an earlier run that is live again: its places were written in order, the first of them
 /// under this number.
 #[derive(Clone, Copy)]

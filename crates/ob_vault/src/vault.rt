@@ -1,3 +1,4 @@
+//! Sealed regions in a store that is not trusted.
 use crate::earlier::Earlier;
 use crate::fault::VaultErr;
 use crate::region::{Order, Region};

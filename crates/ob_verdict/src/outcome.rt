@@ -1,3 +1,4 @@
+//! How statements are answered.
 use ob_base::Refusal;
 
 /// How a statement was answered.

@@ -1,5 +1,4 @@
 //! What a run begins with.
-
 use ob_file::Complaint;
 use ob_help::wrong_word;
 use ob_start::{
