@@ -6,7 +6,7 @@ those of the third ask is counted from docs/SPECIFICATION.md. No answer of the e
 
 usage: gen/reference.py [PATH-OF-ob_answers]
 
-Needs that program (bench/build.sh ob_answers builds it: crates/ob_answers/out/ob_answers), and takes a minute.
+Needs that program (bench/build.py ob_answers builds it: crates/ob_answers/out/ob_answers), and takes a minute.
 """
 import pathlib
 import random

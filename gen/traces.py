@@ -2,7 +2,7 @@
 """Draws docs/traces.svg: which blocks two sessions ask for, over time, and which pages SQLite asks for in the same two.
 The sessions have the same statements and other keys and values. Then the same of two that look for rows by their values and
 find other numbers of them, with results that are padded (`--pad`). Needs strace, and the program of crates/oblitrace
-(bench/build.sh oblitrace builds it). Takes twenty seconds.
+(bench/build.py oblitrace builds it). Takes twenty seconds.
 
 usage: gen/traces.py [PATH-OF-oblitrace]
 """

@@ -7,7 +7,7 @@ their values. The kit's line of README, and the form of a store's files, with `-
 lines with how runs end, with the specification's, and with its own table of what a run finds; and the codes of refusals.
 
 usage: tests/documents.py [PROGRAMS]
-Needs the programs oblidb and oblitrace in PROGRAMS (crates/ without it; `bench/build.sh oblidb oblitrace` builds them there) and
+Needs the programs oblidb and oblitrace in PROGRAMS (crates/ without it; `bench/build.py oblidb oblitrace` builds them there) and
 python3. Takes a second.
 """
 import collections

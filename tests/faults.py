@@ -7,7 +7,7 @@ run answered has to be right, its end one that the specification has, and the ne
 texts that were answered, or over one text more (with its batch).
 
 usage: tests/faults.py [PROGRAMS] [--faults N] [--seed S] [--only WORKLOAD]
-Needs the program in PROGRAMS (crates/ without it; `bench/build.sh oblidb` builds it there), python3 and strace. Tries N faults
+Needs the program in PROGRAMS (crates/ without it; `bench/build.py oblidb` builds it there), python3 and strace. Tries N faults
 of each workload, drawn behind S, or all without the word: some four minutes on four processors.
 """
 import argparse

@@ -9,7 +9,7 @@ they are served together. Prints a line for each, and ends with 1 where an answe
 the run is at work or behind it are not as they should be.
 
 usage: tests/files.py [PROGRAMS]
-Needs the program in PROGRAMS (crates/ without it; `bench/build.sh oblidb` builds it there) and python3, on a system whose limit
+Needs the program in PROGRAMS (crates/ without it; `bench/build.py oblidb` builds it there) and python3, on a system whose limit
 on the size of files binds (Linux), and for one test strace. Takes some seconds.
 """
 import os

@@ -5,7 +5,7 @@ there yet is written first, and the folders that it names are some of this scrip
 with 1 where one prints something else.
 
 usage: tests/guide.py [PROGRAMS]
-Needs the programs oblidb and oblitrace in PROGRAMS (crates/ without it; `bench/build.sh oblidb oblitrace` builds them there) and
+Needs the programs oblidb and oblitrace in PROGRAMS (crates/ without it; `bench/build.py oblidb oblitrace` builds them there) and
 python3. Takes a second.
 """
 import os

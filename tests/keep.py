@@ -10,7 +10,7 @@ that goes on from it answers as it should. Prints a line for each, and ends with
 as it should be.
 
 usage: tests/keep.py [PROGRAMS]
-Needs the program in PROGRAMS (crates/ without it; `bench/build.sh oblidb` builds it there) and python3, on a system whose limit
+Needs the program in PROGRAMS (crates/ without it; `bench/build.py oblidb` builds it there) and python3, on a system whose limit
 on the size of files binds (Linux), and for some tests strace. Takes a minute.
 """
 import collections

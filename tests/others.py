@@ -7,7 +7,7 @@ without a sync of folders; files that may not be read or written, and files of s
 line on standard error.
 
 usage: tests/others.py [PROGRAMS]
-Needs the program oblidb in PROGRAMS (crates/ without it; `bench/build.sh oblidb` builds it there) and python3; for some tests
+Needs the program oblidb in PROGRAMS (crates/ without it; `bench/build.py oblidb` builds it there) and python3; for some tests
 strace, or root (to mount a small disk, and to be somebody else). Takes some seconds.
 """
 import contextlib

@@ -9,7 +9,7 @@ run has to answer as one run over the texts that were answered, or over one text
 more, and to leave no file that nothing needs.
 
 usage: tests/power.py [PROGRAMS] [--states N] [--seed S] [--only WORKLOAD]
-Needs the program in PROGRAMS (crates/ without it; `bench/build.sh oblidb` builds it there), python3 and strace. Tries N states
+Needs the program in PROGRAMS (crates/ without it; `bench/build.py oblidb` builds it there), python3 and strace. Tries N states
 of each workload, 500 without the word, drawn behind S: some two minutes on four processors.
 """
 import argparse

@@ -72,7 +72,7 @@ def program(folder, name="oblidb"):
     for place in (pathlib.Path(folder, name, "out", name), pathlib.Path(folder, name)):
         if place.is_file():
             return str(place.resolve())
-    sys.exit(f"{name} isn't built in {folder}: `bench/build.sh {name}` builds it in crates/, as `rt ci` does")
+    sys.exit(f"{name} isn't built in {folder}: `bench/build.py {name}` builds it in crates/, as `rt ci` does")
 
 
 def has(tool):

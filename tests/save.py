@@ -12,7 +12,7 @@ refused; and marks that are none, gone or of the other word. Prints a line for e
 a file or a mark is not as it should be.
 
 usage: tests/save.py [PROGRAMS] [--calls N] [--seed S]
-Needs the program in PROGRAMS (crates/ without it; `bench/build.sh oblidb` builds it there), python3 and strace, on a system
+Needs the program in PROGRAMS (crates/ without it; `bench/build.py oblidb` builds it there), python3 and strace, on a system
 whose limit on the size of files binds (Linux). Of each session that is hindered at its calls N are drawn behind S, or all are
 taken without the word: some four minutes on four processors.
 """

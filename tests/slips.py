@@ -7,7 +7,7 @@ that refuses says why in one line on standard error, and nothing that lay there 
 most, which are empty. And what is made is for its user alone, whatever the umask, and lies in the store, except the mark.
 
 usage: tests/slips.py [PROGRAMS]
-Needs the programs oblidb and oblitrace in PROGRAMS (crates/ without it; `bench/build.sh oblidb oblitrace` builds them there) and
+Needs the programs oblidb and oblitrace in PROGRAMS (crates/ without it; `bench/build.py oblidb oblitrace` builds them there) and
 python3; for one test strace. Takes some seconds.
 """
 import collections
