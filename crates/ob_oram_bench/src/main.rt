@@ -1,4 +1,4 @@
-//! Accesses of an index in a store in memory: lines with what comes of them, and what `bench/oram.sh` times and counts.
+//! Accesses of an index in a store in memory: lines with what comes of them, and what `bench/oram.py` times and counts.
 //!
 //! It reads lines. Blank lines, and lines that begin with `#`, are printed as they stand. A line that begins with `s` is
 //! an index with steps on it, and is printed with what comes of each; one that begins with `place` is a buffer whose

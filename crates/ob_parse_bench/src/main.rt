@@ -1,4 +1,4 @@
-//! Reads a text from standard input, parses it a hundred times, and does nothing else: what `bench/parse.sh`
+//! Reads a text from standard input, parses it a hundred times, and does nothing else: what `bench/parse.py`
 //! times.
 #![tactic(auto)]
 

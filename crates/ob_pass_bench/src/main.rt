@@ -1,4 +1,4 @@
-//! Fills a table of real rows in a store in memory, and runs one pass over it: what `bench/passes.sh` times.
+//! Fills a table of real rows in a store in memory, and runs one pass over it: what `bench/passes.py` times.
 //!
 //! It reads lines. A line has a letter for the pass, the bytes of a row, the rows of a block, the slots of the table,
 //! the rows that may be open, how many rows are selected, or how many slots the left table of a join has, and, where
