@@ -1,9 +1,9 @@
 //! How many accesses statements ask, counted from `docs/SPECIFICATION.md`, over flat tables by the plans Small and Large.
 use crate::settings::Settings;
-use ob_base::{Name, NoMemory, Refusal, Source};
+use ob_base::{Name, Refusal, Source};
 use ob_mean::Answer;
 use ob_sql::Stmt;
-use std::alloc::Global;
+use std::alloc::{AllocError, Global};
 
 // A table, and how many slots it has.
 #[derive(Drop)]
@@ -21,6 +21,7 @@ pub struct Accesses {
     kept: u64,
     is_large: bool,
     batch: u64,
+    // Each table that was made, one that was dropped, too.
     held: Vec<Held>,
     // The table of the INSERTs that go into one batch, and how many there are.
     into: Option<Name>,
@@ -34,23 +35,6 @@ fn parts(n: u64, size: u64) -> u64 {
         .unwrap_or(0)
 }
 
-// Whether a statement is refused before any access: over flat tables three refusals come behind some.
-fn is_early(answer: &Answer) -> bool {
-    match answer {
-        Answer::Refused(Refusal::Duplicate | Refusal::Full | Refusal::TooManyGroups) => false,
-        Answer::Refused(_) => true,
-        Answer::Done | Answer::Changed(_) | Answer::Rows(_) => false,
-    }
-}
-
-// How many rows are answered.
-fn rows_in(answer: &Answer) -> u64 {
-    match answer {
-        Answer::Rows(rows) => rows.as_slice().len() as u64,
-        Answer::Done | Answer::Changed(_) | Answer::Refused(_) => 0,
-    }
-}
-
 impl Accesses {
     /// Nothing was asked yet.
     pub fn new(alloc: Global, settings: Settings, batch: Option<u32>) -> Accesses {
@@ -61,7 +45,7 @@ impl Accesses {
             count: 0,
             pack,
             kept: blocks.saturating_mul(pack),
-            is_large: matches!(settings.plan, Some("large")),
+            is_large: settings.plan == "large",
             batch: u64::from(batch.unwrap_or(1)).min(buffer.saturating_sub(pack)),
             held: Vec::new(alloc),
             into: None,
@@ -69,71 +53,82 @@ impl Accesses {
         }
     }
 
-    // So many were asked.
-    fn add(&mut self, count: u64) {
-        self.count = self.count.saturating_add(count);
+    // So many blocks are asked for so many times, and so many accesses more.
+    fn add(&mut self, times: u64, blocks: u64, more: u64) {
+        let asked = times.saturating_mul(blocks).saturating_add(more);
+        self.count = self.count.saturating_add(asked);
     }
 
-    // So many times, this many were.
-    fn add_times(&mut self, times: u64, count: u64) {
-        self.add(times.saturating_mul(count));
-    }
-
-    // The slots of a table.
+    // The slots of a table, which is the last one that was made with its name.
     fn slots(&self, table: &Name) -> u64 {
-        match self.held.iter().find(|held| held.name == *table) {
-            Some(held) => held.slots,
-            None => 0,
+        let mut slots = 0;
+        for held in self.held.iter() {
+            if held.name == *table {
+                slots = held.slots;
+            }
         }
-    }
-
-    // The blocks of so many slots.
-    fn blocks(&self, slots: u64) -> u64 {
-        parts(slots, self.pack)
-    }
-
-    // The blocks of a table.
-    fn blocks_of(&self, table: &Name) -> u64 {
-        self.blocks(self.slots(table))
+        slots
     }
 
     // Of so many slots this many are selected.
     fn select(&mut self, slots: u64, selected: u64) {
-        let (blocks, result) = (self.blocks(slots), self.blocks(selected));
-        self.add(blocks);
-        if selected == 0 {
-            return;
-        }
-        if self.is_large {
-            self.add_times(5, blocks);
-        } else {
-            self.add_times(parts(selected, self.kept), blocks);
-            self.add_times(2, result);
-        }
-        self.add(2);
-    }
-
-    // Two tables are joined, and of their pairs this many are selected.
-    fn join(&mut self, left: &Name, right: &Name, selected: u64) {
-        let chunks = parts(self.slots(left), self.kept);
-        let joined = chunks.saturating_mul(self.blocks_of(right));
-        self.add(self.blocks_of(left));
-        self.add_times(2, joined);
-        self.add(2);
-        self.select(joined.saturating_mul(self.pack), selected);
-    }
-
-    // A table is made.
-    fn create(&mut self, table: &Name, slots: u64) -> Result<(), NoMemory> {
-        self.add(self.blocks(slots).saturating_add(1));
-        let name = table.copied();
-        match self.held.push(Held { name, slots }) {
-            Ok(()) => Ok(()),
-            Err(_) => Err(NoMemory),
+        let blocks = parts(slots, self.pack);
+        self.add(1, blocks, 0);
+        if selected > 0 && self.is_large {
+            self.add(5, blocks, 2);
+        } else if selected > 0 {
+            let result = parts(selected, self.pack);
+            self.add(parts(selected, self.kept), blocks, 2);
+            self.add(2, result, 0);
         }
     }
 
-    // Whether a text goes into the batch of those before it.
+    // A SELECT of so many rows.
+    fn select_from(&mut self, source: &Source, selected: u64) {
+        match source {
+            Source::Table(name) => self.select(self.slots(name), selected),
+            Source::Join { left, right, .. } => {
+                let slots = self.slots(left);
+                let blocks = parts(self.slots(right), self.pack);
+                let joined = parts(slots, self.kept).saturating_mul(blocks);
+                self.add(1, parts(slots, self.pack), 2);
+                self.add(2, joined, 0);
+                self.select(joined.saturating_mul(self.pack), selected);
+            }
+        }
+    }
+
+    // A statement is served by itself, or begins a batch.
+    fn serve(&mut self, stmt: &Stmt, selected: u64) -> Result<(), AllocError> {
+        match stmt {
+            Stmt::Create {
+                table,
+                capacity,
+                ..
+            } => {
+                let slots = u64::from(*capacity);
+                self.add(1, parts(slots, self.pack), 1);
+                let name = table.copied();
+                self.held.push(Held { name, slots })?;
+            }
+            Stmt::Insert { table, .. } => {
+                self.into = Some(table.copied());
+                self.texts = 1;
+                self.add(3, parts(self.slots(table), self.pack), 2);
+            }
+            Stmt::Update { table, .. } | Stmt::Delete { table, .. } => {
+                self.add(2, parts(self.slots(table), self.pack), 2);
+            }
+            Stmt::Drop { .. } => self.add(0, 0, 1),
+            Stmt::SelectRows(select) => self.select_from(&select.source, selected),
+            Stmt::SelectTotals(select) => {
+                self.add(1, parts(self.slots(&select.table), self.pack), 0);
+            }
+        }
+        Ok(())
+    }
+
+    // Whether a statement goes into the batch of those before it.
     fn is_gathered(&self, stmt: &Stmt) -> bool {
         match (stmt, &self.into) {
             (Stmt::Insert { table, .. }, Some(into)) => *table == *into && self.texts < self.batch,
@@ -141,51 +136,24 @@ impl Accesses {
         }
     }
 
-    // A text is served by itself, or begins a batch.
-    fn serve(&mut self, stmt: &Stmt, answer: &Answer) -> Result<(), NoMemory> {
-        match stmt {
-            Stmt::Create {
-                table,
-                capacity,
-                ..
-            } => return self.create(table, u64::from(*capacity)),
-            Stmt::Insert { table, .. } => {
-                self.into = Some(table.copied());
-                self.texts = 1;
-                self.add_times(3, self.blocks_of(table));
-                self.add(2);
-            }
-            Stmt::Update { table, .. } | Stmt::Delete { table, .. } => {
-                self.add_times(2, self.blocks_of(table));
-                self.add(2);
-            }
-            Stmt::Drop { table } => {
-                self.add(1);
-                self.held.retain(|held| held.name != *table);
-            }
-            Stmt::SelectRows(select) => match &select.source {
-                Source::Table(name) => self.select(self.slots(name), rows_in(answer)),
-                Source::Join { left, right, .. } => self.join(left, right, rows_in(answer)),
-            },
-            Stmt::SelectTotals(select) => self.add(self.blocks_of(&select.table)),
-        }
-        Ok(())
-    }
-
     /// A statement comes, which is answered so.
-    pub fn take(&mut self, stmt: &Stmt, answer: &Answer) -> Result<(), NoMemory> {
+    pub fn take(&mut self, stmt: &Stmt, answer: &Answer) -> Result<(), AllocError> {
         if self.is_gathered(stmt) {
             self.texts = self.texts.saturating_add(1);
             return Ok(());
         }
         self.end_batch();
-        if is_early(answer) {
-            return Ok(());
+        match answer {
+            Answer::Rows(rows) => self.serve(stmt, rows.as_slice().len() as u64),
+            // (over flat tables no other refusals come behind accesses)
+            Answer::Refused(Refusal::Duplicate | Refusal::Full | Refusal::TooManyGroups)
+            | Answer::Done
+            | Answer::Changed(_) => self.serve(stmt, 0),
+            Answer::Refused(_) => Ok(()),
         }
-        self.serve(stmt, answer)
     }
 
-    /// A text comes that is none.
+    /// A text comes that is no statement.
     pub fn end_batch(&mut self) {
         self.into = None;
     }

@@ -1,7 +1,7 @@
 //! Columns and conditions.
 use crate::draws::Draws;
 use crate::pen::Pen;
-use crate::tables::{Column, Tables};
+use crate::tables::Tables;
 use crate::values::{integer, literal};
 
 /// So deep a condition is at most.
@@ -16,15 +16,6 @@ pub struct Named {
 }
 
 impl Named {
-    /// A column of a table, with it.
-    pub fn of(table: &'static str, column: Column) -> Named {
-        Named {
-            table: Some(table),
-            column: column.name,
-            is_number: column.is_number,
-        }
-    }
-
     /// Writes it.
     pub fn put(self, to: &mut Pen) {
         if let Some(table) = self.table {
@@ -57,10 +48,9 @@ pub fn name_column(draws: &mut Draws, tables: &Tables, scope: &[&'static str]) -
 // Writes a comparison of a column, with a literal or with another column.
 fn comparison(draws: &mut Draws, tables: &Tables, scope: &[&'static str], to: &mut Pen) {
     let column = name_column(draws, tables, scope);
+    to.put(" ");
     column.put(to);
-    to.put(" ");
-    to.put(draws.one(&["=", "<>", "!=", "<", "<=", ">", ">="]));
-    to.put(" ");
+    to.put(draws.one(&[" = ", " <> ", " != ", " < ", " <= ", " > ", " >= ", "="]));
     if draws.chance(80) {
         literal(draws, column.is_number, to);
     } else {
@@ -78,41 +68,21 @@ fn condition(draws: &mut Draws, tables: &Tables, scope: &[&'static str], depth: 
         let is_closed = form == 0 || draws.chance(50);
         if form == 1 {
             draws.keyword(to, "NOT");
-            to.put(" ");
         }
-        to.put(if is_closed { "(" } else { "" });
+        to.put(if is_closed { " (" } else { "" });
         condition(draws, tables, scope, depth - 1, to);
         to.put(if is_closed { ")" } else { "" });
     } else {
         condition(draws, tables, scope, depth - 1, to);
-        draws.next_keyword(to, if form == 2 { "AND" } else { "OR" });
-        to.put(" ");
+        draws.keyword(to, if form == 2 { "AND" } else { "OR" });
         condition(draws, tables, scope, depth - 1, to);
-    }
-}
-
-// The key of an index that alone is looked at, in most cases.
-fn asked_key(
-    draws: &mut Draws,
-    tables: &Tables,
-    scope: &[&'static str],
-) -> Option<(&'static str, &'static str)> {
-    let [name] = scope else {
-        return None;
-    };
-    let key = tables.key(*name)?;
-    let is_asked = tables.is_index(*name) && !draws.chance(15);
-    if is_asked {
-        Some((*name, key.name))
-    } else {
-        None
     }
 }
 
 // Writes that a key is some integer.
 fn by_key(draws: &mut Draws, table: &str, key: &str, to: &mut Pen) {
     let is_closed = draws.chance(10);
-    to.put(if is_closed { "(" } else { "" });
+    to.put(if is_closed { " (" } else { " " });
     if draws.chance(20) {
         to.put(table);
         to.put(".");
@@ -131,13 +101,17 @@ pub fn filter(
     percent: usize,
     to: &mut Pen,
 ) {
-    if let Some((table, key)) = asked_key(draws, tables, scope) {
-        draws.next_keyword(to, "WHERE");
-        to.put(" ");
-        by_key(draws, table, key, to);
-    } else if draws.chance(percent) {
-        draws.next_keyword(to, "WHERE");
-        to.put(" ");
-        condition(draws, tables, scope, DEPTH, to);
+    let is_by_key = scope.len() == 1 && draws.chance(85);
+    let name = scope.first().copied().unwrap_or("");
+    match tables.key(name) {
+        Some(key) if key.is_indexed && is_by_key => {
+            draws.keyword(to, "WHERE");
+            by_key(draws, name, key.name, to);
+        }
+        _ if draws.chance(percent) => {
+            draws.keyword(to, "WHERE");
+            condition(draws, tables, scope, DEPTH, to);
+        }
+        _ => {}
     }
 }

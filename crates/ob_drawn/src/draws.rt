@@ -49,12 +49,6 @@ impl Draws {
         words.get(at).copied().unwrap_or("")
     }
 
-    /// One of these numbers.
-    pub fn number(&mut self, numbers: &[u32]) -> u32 {
-        let at = self.below(numbers.len());
-        numbers.get(at).copied().unwrap_or(0)
-    }
-
     /// The numbers from 0 to 3, of which the first so many come in any order.
     pub fn order(&mut self, n: usize) -> [usize; 4] {
         let mut order = [0, 1, 2, 3];
@@ -67,13 +61,16 @@ impl Draws {
         order
     }
 
-    /// Writes a keyword in some case: in capitals twice as often as in small letters, or with a capital first.
+    /// Writes a keyword, behind a blank where it isn't the first, in some case: in capitals twice as often as in small
+    /// letters, or with a capital first.
     pub fn keyword(&mut self, to: &mut Pen, word: &str) {
         let capitals = match self.below(4) {
             0 | 1 => word.len(),
             2 => 0,
             _ => 1,
         };
+        let is_first = to.bytes().is_empty();
+        to.put(if is_first { "" } else { " " });
         for (i, b) in word.as_bytes().iter().enumerate() {
             let b = if i < capitals {
                 *b
@@ -82,11 +79,5 @@ impl Draws {
             };
             to.write(&[b]);
         }
-    }
-
-    /// The same behind a blank.
-    pub fn next_keyword(&mut self, to: &mut Pen, word: &str) {
-        to.put(" ");
-        self.keyword(to, word);
     }
 }

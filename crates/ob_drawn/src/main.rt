@@ -1,6 +1,6 @@
 //! Draws sessions, has the engine and the plain evaluator answer them, and compares what both say: each header, the rows
-//! behind it in any order, and each last line. Sessions with runs of INSERTs are served with `--batch`, too, and how many
-//! accesses they ask is compared with what the specification counts.
+//! behind it in any order, each last line, and the status. Sessions with runs of INSERTs are served with `--batch`, too,
+//! and how many accesses they ask is compared with what the specification counts.
 //!
 //! The words are `[SEED [SESSIONS]]`: a number by which all is drawn, 1 without it, and how many sessions there are. It
 //! prints each that differs, and last how many there were. Each is compared once more with a bit of what is wanted
@@ -13,7 +13,6 @@ mod changes;
 mod conditions;
 mod creates;
 mod draws;
-mod fault;
 mod pen;
 mod plain;
 mod selects;
@@ -24,8 +23,7 @@ mod statements;
 mod tables;
 mod values;
 
-use crate::fault::Fault;
-use crate::serving::{Part, Served, Wanted, difference, is_noticed, serve};
+use crate::serving::{Served, Wanted, difference, is_noticed, serve};
 use crate::sessions::{Session, drawn};
 use std::alloc::Global;
 use std::env;
@@ -34,29 +32,21 @@ use std::process::ExitCode;
 use std::rt::Env;
 
 /// How many sessions there are where no word says so.
-const SESSIONS: u64 = 2_100;
-
-/// Which sessions are drawn.
-#[derive(Clone, Copy)]
-struct Run {
-    seed: u64,
-    sessions: u64,
-}
+const SESSIONS: u64 = 2_160;
 
 /// How many of each there were.
 #[derive(Clone, Copy)]
 struct Tally {
-    sessions: u64,
     texts: u64,
     refused: u64,
-    // How often they were served, with and without batches.
+    // How often sessions were served, some of them with and without batches.
     runs: u64,
     differ: u64,
     noticed: u64,
 }
 
-// Which sessions the words ask for.
-fn run_of<R: Env + AllocGlobal>(rt: &R) -> Option<Run> {
+// The seed, and how many sessions there are, by the words.
+fn numbers<R: Env + AllocGlobal>(rt: &R) -> Option<(u64, u64)> {
     let mut words = env::args(rt).ok()?.skip(1);
     let seed = match words.next() {
         Some(word) => word.as_str().parse::<u64>().ok()?,
@@ -68,25 +58,23 @@ fn run_of<R: Env + AllocGlobal>(rt: &R) -> Option<Run> {
     };
     match words.next() {
         Some(_) => None,
-        None => Some(Run { seed, sessions }),
+        None => Some((seed, sessions)),
     }
 }
 
-// Prints a session that differs.
+// Prints a session of which a part differs.
 fn print_session<R: Print>(
     rt: &R,
     session: &Session,
     words: &str,
     wanted: Wanted<'_>,
     served: &Served,
-    part: Part,
+    part: &str,
 ) -> io::Result<()> {
     let mut out = io::writer(rt);
     println!(rt;
-        "seed {}, session {}: {}",
-        session.seed,
-        session.number,
-        part.word()
+        "seed {}, session {}: {part} differ",
+        session.seed, session.number
     )?;
     println!(rt; "words {words}")?;
     out.write_all(session.typed.bytes())?;
@@ -94,8 +82,7 @@ fn print_session<R: Print>(
     println!(rt; "wanted: status {}, {asked} accesses", wanted.status)?;
     out.write_all(wanted.answers)?;
     println!(rt; "came: status {}, {} accesses", served.status, served.asked)?;
-    out.write_all(served.answers())?;
-    Ok(())
+    out.write_all(served.answers.bytes())
 }
 
 // Serves a session with these words, of which this is wanted.
@@ -106,33 +93,40 @@ fn try_words<R: Print>(
     words: &str,
     wanted: Wanted<'_>,
     tally: &mut Tally,
-) -> Result<(), Fault> {
+) -> io::Result<()> {
     let served = serve(alloc, words, session.typed.bytes())?;
     tally.runs = tally.runs.saturating_add(1);
     if is_noticed(alloc, wanted, session.slip, &served)? {
         tally.noticed = tally.noticed.saturating_add(1);
     }
-    if let Some(part) = difference(alloc, wanted, &served)? {
-        tally.differ = tally.differ.saturating_add(1);
-        print_session(rt, session, words, wanted, &served, part)?;
+    match difference(alloc, wanted, &served)? {
+        Some(part) => {
+            tally.differ = tally.differ.saturating_add(1);
+            print_session(rt, session, words, wanted, &served, part)
+        }
+        None => Ok(()),
     }
-    Ok(())
 }
 
-// Serves a session where so many INSERTs are served together, or each by itself.
+// Serves a session where so many INSERTs are served together, or each by itself. Accesses are counted where there are runs
+// of them.
 fn try_batch<R: Print>(
     rt: &R,
     alloc: Global,
     session: &Session,
     batch: Option<u32>,
     tally: &mut Tally,
-) -> Result<(), Fault> {
+) -> io::Result<()> {
     let pen = session.settings.words(alloc, batch);
     let words = str::from_utf8(pen.bytes()).unwrap_or("");
+    let accesses = match batch {
+        Some(_) => session.together.count,
+        None => session.alone.count,
+    };
     let wanted = Wanted {
-        answers: session.answers.bytes(),
         status: u8::from(session.refused > 0),
-        asked: session.asked(batch),
+        asked: session.settings.batch.and(Some(accesses)),
+        answers: session.answers.bytes(),
     };
     try_words(rt, alloc, session, words, wanted, tally)
 }
@@ -141,12 +135,11 @@ fn try_batch<R: Print>(
 fn try_session<R: Print>(
     rt: &R,
     alloc: Global,
-    run: Run,
+    seed: u64,
     number: u64,
     tally: &mut Tally,
-) -> Result<(), Fault> {
-    let session = drawn(alloc, run.seed, number)?;
-    tally.sessions = tally.sessions.saturating_add(1);
+) -> io::Result<()> {
+    let session = drawn(alloc, seed, number)?;
     tally.texts = tally.texts.saturating_add(session.texts);
     tally.refused = tally.refused.saturating_add(session.refused);
     try_batch(rt, alloc, &session, None, tally)?;
@@ -157,46 +150,35 @@ fn try_session<R: Print>(
 }
 
 // Draws and serves all sessions, and tells whether none differs.
-fn try_all<R: Env + Print + AllocGlobal>(rt: &R) -> Result<bool, Fault> {
-    let Some(run) = run_of(rt) else {
-        return Err(Fault::Usage);
-    };
+fn try_all<R: Print + AllocGlobal>(rt: &R, seed: u64, sessions: u64) -> io::Result<bool> {
     let mut tally = Tally {
-        sessions: 0,
         texts: 0,
         refused: 0,
         runs: 0,
         differ: 0,
         noticed: 0,
     };
-    for number in 0..run.sessions {
-        try_session(rt, rt.alloc(), run, number, &mut tally)?;
+    for number in 0..sessions {
+        try_session(rt, rt.alloc(), seed, number, &mut tally)?;
     }
-    print_tally(rt, tally)?;
+    println!(rt;
+        "{sessions} sessions with {} texts, {} of them refused",
+        tally.texts, tally.refused
+    )?;
+    println!(rt;
+        "{} runs: {} differ, {} do with a bit inverted",
+        tally.runs, tally.differ, tally.noticed
+    )?;
     Ok(tally.differ == 0 && tally.noticed == tally.runs)
 }
 
-// Prints how many there were.
-fn print_tally<R: Print>(rt: &R, tally: Tally) -> io::Result<()> {
-    let Tally {
-        sessions,
-        texts,
-        refused,
-        runs,
-        differ,
-        noticed,
-    } = tally;
-    println!(rt; "{sessions} sessions with {texts} texts, {refused} of them refused")?;
-    println!(rt; "{runs} runs: {differ} differ, {noticed} do with a bit inverted")
-}
-
 fn main(rt: HostRuntime) -> ExitCode {
-    match try_all(&rt) {
+    let Some((seed, sessions)) = numbers(&rt) else {
+        return ExitCode::from(2);
+    };
+    match try_all(&rt, seed, sessions) {
         Ok(true) => ExitCode::from(0),
         Ok(false) => ExitCode::from(1),
-        Err(fault) => {
-            let _ = println!(rt; "{}", fault.line());
-            ExitCode::from(2)
-        }
+        Err(_) => ExitCode::from(2),
     }
 }

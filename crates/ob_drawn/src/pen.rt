@@ -45,13 +45,4 @@ impl Pen {
         let mut buffer = Buffer::new();
         self.put(buffer.format(n));
     }
-
-    /// Writes one more field of a line of fields in quotes, whose bytes are these pieces.
-    pub fn put_field(&mut self, is_first: bool, pieces: &[&str]) {
-        self.put(if is_first { "\"" } else { ",\"" });
-        for piece in pieces {
-            self.put(piece);
-        }
-        self.put("\"");
-    }
 }

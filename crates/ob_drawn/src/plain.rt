@@ -1,11 +1,10 @@
 //! What statements are answered by the plain evaluator, in which no table is sealed and no store is asked.
-ghost use Rattle.std.specs.Prelude.{◌≤◌, ◌+◌, ◌*◌, IfSome};
+ghost use Rattle.std.specs.Prelude.{◌≤◌, ◌+◌, ◌*◌};
 
-use crate::fault::Fault;
 use crate::pen::Pen;
 use crate::settings::Settings;
 use crate::statements::What;
-use ob_base::{Config, Planner, Shown};
+use ob_base::{Config, NoMemory, Planner, Shown};
 use ob_mean::Answer;
 use ob_parse::{ParseErr, parse};
 use ob_print::refusal_line;
@@ -17,14 +16,6 @@ use std::alloc::Global;
 /// A text of more bytes is not read.
 const LONGEST: usize = 65_536;
 
-/// Whether these bytes are one text, to its end.
-pub fn is_text(bytes: &[u8]) -> bool {
-    match split(bytes) {
-        Piece::Stmt { from, to } => from == 0 && to == bytes.len(),
-        Piece::Empty { .. } | Piece::More { .. } => false,
-    }
-}
-
 /// The statement of a text.
 pub fn read(alloc: Global, text: &[u8]) -> Result<Stmt, ParseErr> {
     if text.len() > LONGEST {
@@ -34,26 +25,23 @@ pub fn read(alloc: Global, text: &[u8]) -> Result<Stmt, ParseErr> {
 }
 
 // What of the settings the answers depend on.
-fn config_of(settings: Settings) -> Option<Config>
-    ensures pack { IfSome result (λ c. 1 ≤ c.pack) }
-    ensures buffer { IfSome result (λ c. 3 * c.pack + 1 ≤ c.buffer) }
+fn config_of(settings: Settings) -> Config
+    ensures pack { 1 ≤ result.pack }
+    ensures buffer { 3 * result.pack + 1 ≤ result.buffer }
 {
-    let least = u32::from(settings.pack) * 3 + 1;
-    if settings.pack == 0 || settings.buffer < least {
-        return None;
-    }
-    Some(Config {
-        buffer: settings.buffer,
+    let pack = settings.pack.max(1);
+    Config {
+        buffer: settings.buffer.max(3 * u32::from(pack) + 1),
         depth: 5,
-        pack: settings.pack,
+        pack,
         planner: Planner::Auto,
         pad: None,
-        stash: settings.stash.unwrap_or(32),
+        stash: settings.stash,
         keep: false,
         save: false,
         batch: None,
         max_input: 1_073_741_824,
-    })
+    }
 }
 
 /// What a statement is answered.
@@ -62,14 +50,8 @@ pub fn answer(
     settings: Settings,
     db: &mut Database,
     stmt: &Stmt,
-) -> Result<Answer, Fault> {
-    let Some(config) = config_of(settings) else {
-        return Err(Fault::Settings);
-    };
-    match db.step(alloc, &config, stmt) {
-        Ok(answer) => Ok(answer),
-        Err(_) => Err(Fault::NoMemory),
-    }
+) -> Result<Answer, NoMemory> {
+    db.step(alloc, &config_of(settings), stmt)
 }
 
 /// Has a database answer the texts that were typed.
@@ -78,50 +60,36 @@ pub fn replay(
     settings: Settings,
     typed: &[u8],
     db: &mut Database,
-) -> Result<(), Fault> {
+) -> Result<(), NoMemory> {
     let mut rest = typed;
     for _ in 0..typed.len() {
         let Piece::Stmt { from, to } = split(rest) else {
             break;
         };
-        let text = rest.get(from..to).unwrap_or(&[]);
-        match read(alloc, text) {
+        match read(alloc, rest.get(from..to).unwrap_or(&[])) {
             Ok(stmt) => {
                 let _ = answer(alloc, settings, db, &stmt)?;
             }
             Err(ParseErr::Syntax(_)) => {}
-            Err(ParseErr::NoMemory) => return Err(Fault::NoMemory),
+            Err(ParseErr::NoMemory) => return Err(NoMemory),
         }
         rest = rest.get(to..).unwrap_or(&[]);
     }
     Ok(())
 }
 
-/// Whether a statement was refused.
-pub fn is_refused(answer: &Answer) -> bool {
-    match answer {
-        Answer::Refused(_) => true,
-        Answer::Done | Answer::Changed(_) | Answer::Rows(_) => false,
-    }
-}
-
-// Writes the bytes of a text, each quote in it doubled.
-fn put_doubled(to: &mut Pen, bytes: &[u8]) {
-    for b in bytes {
-        if *b == b'"' {
-            to.put("\"");
-        }
-        to.write(&[*b]);
-    }
-}
-
-// Writes a row as fields in quotes.
+// Writes a row as fields in quotes, each quote in them doubled.
 fn put_row(to: &mut Pen, row: &[Shown]) {
     for (i, field) in row.iter().enumerate() {
         to.put(if i == 0 { "\"" } else { ",\"" });
         match field {
             Shown::Int(n) => to.put_number(*n),
-            Shown::Text(text) => put_doubled(to, text.as_bytes()),
+            Shown::Text(text) => {
+                for b in text.as_bytes() {
+                    to.put(if *b == b'"' { "\"" } else { "" });
+                    to.write(&[*b]);
+                }
+            }
             Shown::Null => to.put("NULL"),
         }
         to.put("\"");
@@ -129,47 +97,37 @@ fn put_row(to: &mut Pen, row: &[Shown]) {
     to.put("\n");
 }
 
-// The line of a statement that was carried out, with nothing to tell.
-fn done_line(what: &What) -> &'static str {
+// What is said of a statement that was carried out.
+fn word_of(what: &What) -> &'static str {
     match what {
-        What::Create(_) => "= created\n",
-        What::Insert => "= inserted\n",
-        What::Drop(_) => "= dropped\n",
-        What::Update | What::Delete | What::Select | What::Unknown => "? done\n",
-    }
-}
-
-// What ends the line of a statement that changed so many rows.
-fn changed_word(what: &What) -> &'static str {
-    match what {
+        What::Create(_) => "created\n",
+        What::Insert => "inserted\n",
         What::Update => " updated\n",
         What::Delete => " deleted\n",
-        What::Create(_) | What::Insert | What::Drop(_) | What::Select | What::Unknown => {
-            "? changed\n"
-        }
+        What::Drop(_) => "dropped\n",
+        What::Select => " rows\n",
+        What::Unknown => "?\n",
     }
 }
 
 /// Writes what a statement is answered, with this header.
 pub fn put_answer(to: &mut Pen, what: &What, head: &[u8], answer: &Answer) {
     match answer {
-        Answer::Done => to.put(done_line(what)),
+        Answer::Refused(refusal) => return to.write(refusal_line(*refusal).as_bytes()),
+        Answer::Done => to.put("= "),
         Answer::Changed(n) => {
             to.put("= ");
             to.put_number(*n);
-            to.put(changed_word(what));
         }
         Answer::Rows(rows) => {
-            let rows = rows.as_slice();
             to.write(head);
             to.put("\n");
-            for row in rows {
+            for row in rows.as_slice() {
                 put_row(to, row.as_slice());
             }
             to.put("= ");
-            to.put_number(rows.len());
-            to.put(" rows\n");
+            to.put_number(rows.as_slice().len());
         }
-        Answer::Refused(refusal) => to.write(refusal_line(*refusal).as_bytes()),
     }
+    to.put(word_of(what));
 }

@@ -1,5 +1,4 @@
 //! A session is served over a store in memory, and what comes of it is compared.
-use crate::fault::Fault;
 use ob_io::{MemSink, MemSource, Sink, Source};
 use ob_shell::meddle_top;
 use ob_store::BlockStore;
@@ -11,48 +10,23 @@ const SECRET: &[u8] = b"00000000000000000000000000000000000000000000000000000000
 /// So many bytes of answers a session may have.
 const ROOM: usize = 4_194_304;
 
-/// What may differ.
-#[derive(Clone, Copy)]
-pub enum Part {
-    Answers,
-    Accesses,
-    Status,
-}
-
-impl Part {
-    /// Its word.
-    pub fn word(self) -> &'static str {
-        match self {
-            Part::Answers => "the answers differ",
-            Part::Accesses => "the accesses differ",
-            Part::Status => "the status differs",
-        }
-    }
-}
-
 /// What came of a session.
 #[derive(Drop)]
 pub struct Served {
     pub status: u8,
     /// How many accesses were asked.
     pub asked: u64,
-    out: MemSink,
-}
-
-impl Served {
     /// What was answered.
-    pub fn answers(&self) -> &[u8] {
-        self.out.bytes()
-    }
+    pub answers: MemSink,
 }
 
 /// What is wanted of a session.
 #[derive(Clone, Copy)]
 pub struct Wanted<'a> {
-    pub answers: &'a [u8],
     pub status: u8,
     /// How many accesses, where they are counted.
     pub asked: Option<u64>,
+    pub answers: &'a [u8],
 }
 
 // The words of a line.
@@ -62,14 +36,6 @@ fn words_in(alloc: Global, line: &str) -> Result<Vec<String>, AllocError> {
         words.push(String::from_str(alloc, word)?)?;
     }
     Ok(words)
-}
-
-// The input of a session.
-fn input_of(alloc: Global, typed: &[u8]) -> Result<MemSource, AllocError> {
-    let mut bytes = Vec::new(alloc);
-    bytes.extend_from_slice(SECRET)?;
-    bytes.extend_from_slice(typed)?;
-    Ok(MemSource::new(bytes, Vec::new(alloc)))
 }
 
 // Serves by these words, and tells the status and how many accesses were asked.
@@ -87,14 +53,29 @@ fn serve_meddled<I: Source, O: Sink, T: Sink>(
     }
 }
 
+// A sink that takes so many bytes.
+fn sink(alloc: Global, room: usize) -> Result<MemSink, AllocError> {
+    match MemSink::new(alloc, room, Vec::new(alloc)) {
+        Ok(sink) => Ok(sink),
+        Err(_) => Err(AllocError),
+    }
+}
+
 /// Serves what is typed, with the words of this line. No access is traced.
-pub fn serve(alloc: Global, line: &str, typed: &[u8]) -> Result<Served, Fault> {
+pub fn serve(alloc: Global, line: &str, typed: &[u8]) -> Result<Served, AllocError> {
     let words = words_in(alloc, line)?;
-    let mut input = input_of(alloc, typed)?;
-    let mut out = MemSink::new(alloc, ROOM, Vec::new(alloc))?;
-    let mut trace = MemSink::new(alloc, 0, Vec::new(alloc))?;
-    let (status, asked) = serve_meddled(alloc, &words, &mut input, &mut out, &mut trace);
-    Ok(Served { status, asked, out })
+    let mut bytes = Vec::new(alloc);
+    bytes.extend_from_slice(SECRET)?;
+    bytes.extend_from_slice(typed)?;
+    let mut input = MemSource::new(bytes, Vec::new(alloc));
+    let mut answers = sink(alloc, ROOM)?;
+    let mut trace = sink(alloc, 0)?;
+    let (status, asked) = serve_meddled(alloc, &words, &mut input, &mut answers, &mut trace);
+    Ok(Served {
+        status,
+        asked,
+        answers,
+    })
 }
 
 // The lines of some answers, in which the rows behind each header are sorted.
@@ -102,7 +83,12 @@ fn ordered(alloc: Global, answers: &[u8]) -> Result<Vec<&[u8]>, AllocError> {
     let mut lines = Vec::new(alloc);
     let mut rows = Vec::new(alloc);
     let mut is_row = false;
-    for line in answers.split(|b| *b == b'\n') {
+    let mut from = 0;
+    for (i, b) in answers.iter().enumerate() {
+        if *b != b'\n' {
+            continue;
+        }
+        let line = answers.get(from..i).unwrap_or(&[]);
         let is_quoted = line.starts_with(b"\"");
         if is_quoted && is_row {
             rows.push(line)?;
@@ -112,13 +98,12 @@ fn ordered(alloc: Global, answers: &[u8]) -> Result<Vec<&[u8]>, AllocError> {
             lines.push(line)?;
         }
         is_row = is_quoted;
+        from = i.saturating_add(1);
     }
+    rows.push(answers.get(from..).unwrap_or(&[]))?;
+    rows.sort()?;
+    lines.append(&mut rows)?;
     Ok(lines)
-}
-
-/// Whether some answers are these, but for the order of the rows behind each header.
-pub fn are_same(alloc: Global, answers: &[u8], others: &[u8]) -> Result<bool, AllocError> {
-    Ok(ordered(alloc, answers)? == ordered(alloc, others)?)
 }
 
 /// The first part in which what came of a session is other than what is wanted.
@@ -126,20 +111,18 @@ pub fn difference(
     alloc: Global,
     wanted: Wanted<'_>,
     served: &Served,
-) -> Result<Option<Part>, AllocError> {
-    if !are_same(alloc, wanted.answers, served.answers())? {
-        return Ok(Some(Part::Answers));
+) -> Result<Option<&'static str>, AllocError> {
+    if ordered(alloc, wanted.answers)? != ordered(alloc, served.answers.bytes())? {
+        return Ok(Some("answers"));
     }
-    if wanted.asked.is_some_and(|asked| asked != served.asked) {
-        return Ok(Some(Part::Accesses));
+    match wanted.asked {
+        Some(asked) if asked != served.asked => Ok(Some("accesses")),
+        _ if wanted.status != served.status => Ok(Some("status")),
+        _ => Ok(None),
     }
-    if wanted.status != served.status {
-        return Ok(Some(Part::Status));
-    }
-    Ok(None)
 }
 
-/// Whether it is noticed that one byte of the wanted answers is another.
+/// Whether it is noticed that a byte of the wanted answers is another.
 pub fn is_noticed(
     alloc: Global,
     wanted: Wanted<'_>,
@@ -151,5 +134,5 @@ pub fn is_noticed(
     if let Some(b) = answers.get_mut(slip) {
         *b ^= 1;
     }
-    Ok(!are_same(alloc, answers.as_slice(), served.answers())?)
+    Ok(ordered(alloc, answers.as_slice())? != ordered(alloc, served.answers.bytes())?)
 }

@@ -1,9 +1,8 @@
 //! A session: what is typed, and what is wanted of it.
 use crate::accesses::Accesses;
 use crate::draws::Draws;
-use crate::fault::Fault;
 use crate::pen::Pen;
-use crate::plain::{answer, is_refused, is_text, put_answer, read, replay};
+use crate::plain::{answer, put_answer, read, replay};
 use crate::settings::Settings;
 use crate::statements::{What, put_text};
 use crate::tables::Tables;
@@ -12,9 +11,10 @@ use ob_mean::Answer;
 use ob_parse::ParseErr;
 use ob_reference::Database;
 use ob_sql::Stmt;
-use std::alloc::Global;
+use ob_token::{Piece, split};
+use std::alloc::{AllocError, Global};
 
-/// So many texts are drawn, of which those are left out that nobody knows the answer of.
+/// So many texts are drawn, of which those are left out whose answer nobody knows.
 const TEXTS: usize = 24;
 
 /// A session that was drawn.
@@ -61,26 +61,9 @@ impl Session {
         self.typed.put("\n");
         put_answer(&mut self.answers, what, head, answer);
         self.texts = self.texts.saturating_add(1);
-        if is_refused(answer) {
+        if matches!(answer, Answer::Refused(_)) {
             self.refused = self.refused.saturating_add(1);
         }
-    }
-
-    /// How many accesses are asked where INSERTs are served together, or each by itself: it is counted where there are runs of
-    /// them.
-    pub fn asked(&self, batch: Option<u32>) -> Option<u64> {
-        let accesses = match batch {
-            Some(_) => self.together.count,
-            None => self.alone.count,
-        };
-        self.settings.batch.and(Some(accesses))
-    }
-
-    // What is asked of it is counted.
-    fn count(&mut self, stmt: &Stmt, answer: &Answer) -> Result<(), Fault> {
-        self.alone.take(stmt, answer)?;
-        self.together.take(stmt, answer)?;
-        Ok(())
     }
 }
 
@@ -93,15 +76,20 @@ fn take_statement(
     text: &[u8],
     what: &What,
     head: &[u8],
-) -> Result<bool, Fault> {
-    let answer = answer(alloc, session.settings, db, stmt)?;
-    if matches!(what, What::Unknown) && !is_refused(&answer) {
+) -> Result<bool, AllocError> {
+    let Ok(answer) = answer(alloc, session.settings, db, stmt) else {
+        return Err(AllocError);
+    };
+    if matches!(what, What::Unknown) && !matches!(answer, Answer::Refused(_)) {
         // (a statement still, but nobody knows of which kind)
         *db = Database::new(alloc);
-        replay(alloc, session.settings, session.typed.bytes(), db)?;
-        return Ok(false);
+        return match replay(alloc, session.settings, session.typed.bytes(), db) {
+            Ok(()) => Ok(false),
+            Err(_) => Err(AllocError),
+        };
     }
-    session.count(stmt, &answer)?;
+    session.alone.take(stmt, &answer)?;
+    session.together.take(stmt, &answer)?;
     session.take(text, what, head, &answer);
     Ok(matches!(answer, Answer::Done))
 }
@@ -114,9 +102,10 @@ fn take(
     text: &[u8],
     what: &What,
     head: &[u8],
-) -> Result<bool, Fault> {
-    if !is_text(text) {
-        return Ok(false);
+) -> Result<bool, AllocError> {
+    match split(text) {
+        Piece::Stmt { from: 0, to } if to == text.len() => {}
+        _ => return Ok(false),
     }
     match read(alloc, text) {
         Ok(stmt) => take_statement(alloc, db, session, &stmt, text, what, head),
@@ -126,19 +115,7 @@ fn take(
             session.take(text, what, head, &Answer::Refused(Refusal::Syntax(at)));
             Ok(false)
         }
-        Err(ParseErr::NoMemory) => Err(Fault::NoMemory),
-    }
-}
-
-// Tables are others behind a statement that was carried out.
-fn follow(tables: &mut Tables, what: What) -> Result<(), Fault> {
-    match what {
-        What::Create(table) => Ok(tables.add(table)?),
-        What::Drop(name) => {
-            tables.remove(name);
-            Ok(())
-        }
-        What::Insert | What::Update | What::Delete | What::Select | What::Unknown => Ok(()),
+        Err(ParseErr::NoMemory) => Err(AllocError),
     }
 }
 
@@ -150,50 +127,50 @@ fn add(
     db: &mut Database,
     session: &mut Session,
     n: usize,
-) -> Result<(), Fault> {
+) -> Result<(), AllocError> {
     let mut text = Pen::new(alloc);
     let mut head = Pen::new(alloc);
     let what = put_text(alloc, draws, tables, n, &mut text, &mut head)?;
-    let is_done = take(alloc, db, session, text.bytes(), &what, head.bytes())?;
     if !text.is_whole() || !head.is_whole() {
-        return Err(Fault::NoMemory);
+        return Err(AllocError);
     }
-    if is_done {
-        follow(tables, what)
-    } else {
-        Ok(())
+    if !take(alloc, db, session, text.bytes(), &what, head.bytes())? {
+        return Ok(());
+    }
+    match what {
+        What::Create(table) => tables.add(table),
+        What::Drop(name) => {
+            tables.remove(name);
+            Ok(())
+        }
+        What::Insert | What::Update | What::Delete | What::Select | What::Unknown => Ok(()),
     }
 }
 
-// Draws the texts.
-fn fill(
-    alloc: Global,
-    draws: &mut Draws,
-    tables: &mut Tables,
-    db: &mut Database,
-    session: &mut Session,
-) -> Result<(), Fault> {
+// Draws the texts, and a byte of what they are answered.
+fn fill(alloc: Global, session: &mut Session) -> Result<(), AllocError> {
+    let mut draws = Draws::new(session.seed, session.number, session.settings.kind);
+    let mut tables = Tables::new(alloc);
+    let mut db = Database::new(alloc);
     for n in 0..TEXTS {
-        add(alloc, draws, tables, db, session, n)?;
+        match add(alloc, &mut draws, &mut tables, &mut db, session, n) {
+            Ok(()) => {}
+            Err(error) => return Err(error),
+        }
     }
+    session.slip = draws.below(session.answers.bytes().len());
     if session.typed.is_whole() && session.answers.is_whole() {
         Ok(())
     } else {
-        Err(Fault::NoMemory)
+        Err(AllocError)
     }
 }
 
 /// The session with this number.
-pub fn drawn(alloc: Global, seed: u64, number: u64) -> Result<Session, Fault> {
+pub fn drawn(alloc: Global, seed: u64, number: u64) -> Result<Session, AllocError> {
     let mut session = Session::new(alloc, seed, number);
-    let mut draws = Draws::new(seed, number, session.settings.kind);
-    let mut tables = Tables::new(alloc)?;
-    let mut db = Database::new(alloc);
-    match fill(alloc, &mut draws, &mut tables, &mut db, &mut session) {
-        Ok(()) => {
-            session.slip = draws.below(session.answers.bytes().len());
-            Ok(session)
-        }
-        Err(fault) => Err(fault),
+    match fill(alloc, &mut session) {
+        Ok(()) => Ok(session),
+        Err(error) => Err(error),
     }
 }

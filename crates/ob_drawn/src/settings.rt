@@ -3,7 +3,7 @@ use crate::pen::Pen;
 use std::alloc::Global;
 
 /// What the statements of a session are.
-#[derive(Clone, Copy, PartialEq, Eq)]
+#[derive(Clone, Copy)]
 pub enum Kind {
     /// Any, over flat tables.
     Flat,
@@ -21,22 +21,51 @@ pub struct Settings {
     pub buffer: u32,
     /// The rows of a block.
     pub pack: u8,
-    /// The word of its plan, if there is one.
-    pub plan: Option<&'static str>,
-    /// The slots of a stash.
-    pub stash: Option<u32>,
-    /// How many INSERTs are served together, where they are.
+    /// The word of its plan.
+    pub plan: &'static str,
+    /// The slots of a stash: room for all keys of any index that the open rows are enough for.
+    pub stash: u32,
+    /// How many INSERTs are served together, where they are, too: then by a plan whose accesses follow from how many rows
+    /// are selected.
     pub batch: Option<u32>,
 }
 
 impl Settings {
     /// The settings of the session with this number.
     pub fn of_session(number: u64) -> Settings {
-        let turn = number / 3;
-        match number % 3 {
-            0 => flat(turn),
-            1 => indexed(turn),
-            _ => batched(turn),
+        let (kind, buffer, pack, plan, stash, batch) = match number % 24 {
+            0 => (Kind::Flat, 64, 1, "auto", 32, None),
+            1 => (Kind::Indexed, 64, 1, "auto", 32, None),
+            2 => (Kind::Batched, 64, 1, "small", 32, Some(4)),
+            3 => (Kind::Flat, 4, 1, "auto", 32, None),
+            4 => (Kind::Batched, 4, 1, "small", 32, Some(65_535)),
+            5 => (Kind::Indexed, 64, 16, "auto", 32, None),
+            6 => (Kind::Flat, 7, 2, "auto", 32, None),
+            7 => (Kind::Batched, 7, 2, "large", 32, Some(65_535)),
+            8 => (Kind::Flat, 16, 4, "auto", 32, None),
+            9 => (Kind::Indexed, 25, 1, "auto", 8, None),
+            10 => (Kind::Batched, 16, 4, "small", 32, Some(2)),
+            11 => (Kind::Flat, 10, 3, "cheapest", 32, None),
+            12 => (Kind::Batched, 10, 3, "large", 32, Some(3)),
+            13 => (Kind::Indexed, 17, 2, "small", 4, None),
+            14 => (Kind::Flat, 64, 16, "auto", 32, None),
+            15 => (Kind::Batched, 64, 16, "small", 32, Some(8)),
+            16 => (Kind::Flat, 8, 1, "small", 32, None),
+            17 => (Kind::Indexed, 80, 8, "large", 24, None),
+            18 => (Kind::Batched, 8, 1, "small", 32, Some(2)),
+            19 => (Kind::Flat, 8, 2, "large", 32, None),
+            20 => (Kind::Batched, 5, 1, "large", 32, Some(4)),
+            21 => (Kind::Indexed, 49, 3, "cheapest", 24, None),
+            22 => (Kind::Flat, 5, 1, "cheapest", 32, None),
+            _ => (Kind::Batched, 49, 16, "small", 32, Some(65_535)),
+        };
+        Settings {
+            kind,
+            buffer,
+            pack,
+            plan,
+            stash,
+            batch,
         }
     }
 
@@ -47,84 +76,14 @@ impl Settings {
         words.put_number(self.buffer);
         words.put(" --pack ");
         words.put_number(self.pack);
-        if let Some(plan) = self.plan {
-            words.put(" --plan ");
-            words.put(plan);
-        }
-        if let Some(slots) = self.stash {
-            words.put(" --stash ");
-            words.put_number(slots);
-        }
+        words.put(" --plan ");
+        words.put(self.plan);
+        words.put(" --stash ");
+        words.put_number(self.stash);
         if let Some(most) = batch {
             words.put(" --batch ");
             words.put_number(most);
         }
         words
-    }
-}
-
-// Those of a session over flat tables.
-fn flat(turn: u64) -> Settings {
-    let (buffer, pack, plan) = match turn % 9 {
-        0 => (64, 1, None),
-        1 => (4, 1, None),
-        2 => (7, 2, None),
-        3 => (16, 4, None),
-        4 => (10, 3, Some("cheapest")),
-        5 => (64, 16, None),
-        6 => (8, 1, Some("small")),
-        7 => (8, 2, Some("large")),
-        _ => (5, 1, Some("cheapest")),
-    };
-    Settings {
-        kind: Kind::Flat,
-        buffer,
-        pack,
-        plan,
-        stash: None,
-        batch: None,
-    }
-}
-
-// Those of a session over indexes: a stash has room for all keys of any index that the open rows are enough for.
-fn indexed(turn: u64) -> Settings {
-    let (buffer, pack, plan, slots) = match turn % 6 {
-        0 => (64, 1, None, 32),
-        1 => (64, 16, None, 32),
-        2 => (25, 1, None, 8),
-        3 => (17, 2, Some("small"), 4),
-        4 => (80, 8, Some("large"), 24),
-        _ => (49, 3, Some("cheapest"), 24),
-    };
-    Settings {
-        kind: Kind::Indexed,
-        buffer,
-        pack,
-        plan,
-        stash: Some(slots),
-        batch: None,
-    }
-}
-
-// Those of a session with runs of INSERTs, by a plan whose accesses follow from the number of selected rows.
-fn batched(turn: u64) -> Settings {
-    let (buffer, pack, plan, most) = match turn % 9 {
-        0 => (64, 1, "small", 4),
-        1 => (4, 1, "small", 65_535),
-        2 => (7, 2, "large", 65_535),
-        3 => (16, 4, "small", 2),
-        4 => (10, 3, "large", 3),
-        5 => (64, 16, "small", 8),
-        6 => (8, 1, "small", 2),
-        7 => (5, 1, "large", 4),
-        _ => (49, 16, "small", 65_535),
-    };
-    Settings {
-        kind: Kind::Batched,
-        buffer,
-        pack,
-        plan: Some(plan),
-        stash: None,
-        batch: Some(most),
     }
 }

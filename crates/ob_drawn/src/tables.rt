@@ -1,7 +1,7 @@
 //! Which tables there are.
 use crate::draws::Draws;
-use ob_base::NoMemory;
-use std::alloc::Global;
+use std::alloc::{AllocError, Global};
+use std::slice;
 
 /// A column as its CREATE has it.
 #[derive(Clone, Copy)]
@@ -9,6 +9,8 @@ pub struct Column {
     pub name: &'static str,
     pub is_number: bool,
     pub is_key: bool,
+    /// Whether its table is an index.
+    pub is_indexed: bool,
 }
 
 /// The column of a table that isn't there.
@@ -16,6 +18,7 @@ const STRANGE: Column = Column {
     name: "id",
     is_number: true,
     is_key: false,
+    is_indexed: false,
 };
 
 /// A table as its CREATE has it.
@@ -23,100 +26,60 @@ const STRANGE: Column = Column {
 pub struct Table {
     pub name: &'static str,
     pub columns: Vec<Column>,
-    pub is_index: bool,
-}
-
-impl Table {
-    /// A table with no columns yet.
-    pub fn new(alloc: Global, name: &'static str, is_index: bool) -> Table {
-        Table {
-            name,
-            columns: Vec::new(alloc),
-            is_index,
-        }
-    }
-
-    /// Adds a column.
-    pub fn push(&mut self, column: Column) -> Result<(), NoMemory> {
-        match self.columns.push(column) {
-            Ok(()) => Ok(()),
-            Err(_) => Err(NoMemory),
-        }
-    }
 }
 
 /// The tables of a session.
 #[derive(Drop)]
 pub struct Tables {
     tables: Vec<Table>,
-    // What stands for one that isn't there.
-    strange: Table,
+    // What stands for the columns of a table that isn't there.
+    strange: Column,
 }
 
 impl Tables {
     /// None yet.
-    pub fn new(alloc: Global) -> Result<Tables, NoMemory> {
-        let mut strange = Table::new(alloc, "", false);
-        match strange.push(STRANGE) {
-            Ok(()) => Ok(Tables {
-                tables: Vec::new(alloc),
-                strange,
-            }),
-            Err(error) => Err(error),
+    pub fn new(alloc: Global) -> Tables {
+        Tables {
+            tables: Vec::new(alloc),
+            strange: STRANGE,
         }
     }
 
-    /// How many there are.
-    pub fn count(&self) -> usize {
-        self.tables.len()
-    }
-
-    // The table of this name.
-    fn get(&self, name: &str) -> Option<&Table> {
-        self.tables.iter().find(|table| table.name == name)
-    }
-
-    /// Whether it is there, and an index.
-    pub fn is_index(&self, name: &str) -> bool {
-        self.get(name).is_some_and(|table| table.is_index)
-    }
-
-    /// Its columns, or one where it isn't there.
+    /// The columns of the table with this name, one where it isn't there.
     pub fn columns(&self, name: &str) -> &[Column] {
-        match self.get(name) {
-            Some(table) => table.columns.as_slice(),
-            None => self.strange.columns.as_slice(),
+        for table in self.tables.iter() {
+            if table.name == name {
+                return table.columns.as_slice();
+            }
         }
-    }
-
-    /// Whether a column of it has this name.
-    pub fn has(&self, name: &str, column: &str) -> bool {
-        self.columns(name).iter().any(|it| it.name == column)
+        slice::from_ref(&self.strange)
     }
 
     /// One of its columns.
     pub fn column(&self, draws: &mut Draws, name: &str) -> Column {
         let columns = self.columns(name);
-        let at = draws.below(columns.len());
-        columns.get(at).copied().unwrap_or(STRANGE)
+        match columns.get(draws.below(columns.len())) {
+            Some(column) => *column,
+            None => STRANGE,
+        }
     }
 
     /// Its key, where it has one.
     pub fn key(&self, name: &str) -> Option<Column> {
-        let columns = self.columns(name);
-        columns.iter().find(|column| column.is_key).copied()
-    }
-
-    /// Its key, or its first column where it has none.
-    pub fn key_or_first(&self, name: &str) -> Column {
-        let first = self.columns(name).first().copied();
-        self.key(name).or(first).unwrap_or(STRANGE)
+        for column in self.columns(name) {
+            if column.is_key {
+                return Some(*column);
+            }
+        }
+        None
     }
 
     /// The name of a table, seldom of one that isn't there.
     pub fn drawn(&self, draws: &mut Draws) -> &'static str {
-        if draws.stays && self.get(draws.last).is_some() {
-            return draws.last;
+        for table in self.tables.iter() {
+            if draws.stays && table.name == draws.last {
+                return table.name;
+            }
         }
         let at = draws.below(self.tables.len());
         let is_strange = draws.chance(3);
@@ -128,11 +91,8 @@ impl Tables {
     }
 
     /// There is this one more.
-    pub fn add(&mut self, table: Table) -> Result<(), NoMemory> {
-        match self.tables.push(table) {
-            Ok(()) => Ok(()),
-            Err(_) => Err(NoMemory),
-        }
+    pub fn add(&mut self, table: Table) -> Result<(), AllocError> {
+        Ok(self.tables.push(table)?)
     }
 
     /// There is none of this name any more.

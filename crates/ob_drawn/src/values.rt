@@ -57,7 +57,8 @@ pub fn integer(draws: &mut Draws, to: &mut Pen) {
 pub fn quotation(draws: &mut Draws, to: &mut Pen) {
     to.put("'");
     if draws.chance(3) {
-        for _ in 0..draws.number(&[20, 256]) {
+        let size = if draws.chance(50) { 20 } else { 256 };
+        for _ in 0..size {
             to.put("y");
         }
     } else {
@@ -66,7 +67,7 @@ pub fn quotation(draws: &mut Draws, to: &mut Pen) {
     to.put("'");
 }
 
-/// Writes a literal of a column, seldom of another kind.
+/// Writes a literal of a column, seldom one of the other kind.
 pub fn literal(draws: &mut Draws, is_number: bool, to: &mut Pen) {
     let is_other = draws.chance(2);
     if is_number != is_other {
