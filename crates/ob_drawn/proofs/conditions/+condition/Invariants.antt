@@ -1,0 +1,4 @@
+use Rattle.ob_drawn.proofs.conditions.+condition.Given as goal
+
+abbrev pub decreases-condition : goal.decreases-condition
+decreases-condition l = l.depth
