@@ -124,7 +124,7 @@ class Session(Driven):
 
 
 class Passes(Driven):
-    """A run of `ob_pass_bench`, which waits behind a pass until it may give back the memory of rows and table."""
+    """A run of `ob_pass_bench`, which waits after a pass until it may give back the memory of rows and table."""
 
     behind = "\n"
 
@@ -161,7 +161,7 @@ def closes(line):
 
 
 def closes_all(count):
-    """What tells the last line of so many answers, which are read one behind the other."""
+    """What tells the last line of so many answers, which are read one after the other."""
     closings = itertools.count(1)
     return lambda line: closes(line) and next(closings) == count
 
@@ -185,7 +185,7 @@ def whole(command, stdin, stdout=subprocess.DEVNULL):
 
 
 def create(table, slots, behind=""):
-    """The statement that makes a table of two integers, with these words behind its capacity."""
+    """The statement that makes a table of two integers, with these words after its capacity."""
     return f"CREATE TABLE {table} (id INT PRIMARY KEY, v INT) CAPACITY {slots}{behind};"
 
 

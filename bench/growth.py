@@ -15,7 +15,7 @@ import tempfile
 from build import build, program
 from driven import KEY, Driven, closes_all, create, parser
 
-# The keys of the index, behind how many statements is looked first, the kilobytes that may come to it from there on, and how many
+# The keys of the index, after how many statements is looked first, the kilobytes that may come to it from there on, and how many
 # statements are typed at once.
 KEYS, FIRST, MOST, PIECE = 1024, 1000, 1024, 200
 # A kind of statement: its name, what stands before it, the words that it needs, and the statement by its number.

@@ -31,7 +31,7 @@ def spent(passes, letter, pack, slots):
 
 
 def before(passes, pack, slots):
-    """Those of the passes of a SELECT by Large, but for the emission of the result: a count, the copy, and its discard."""
+    """Those of the passes of a SELECT by Large, except for the emission of the result: a count, the copy, and its discard."""
     return sum(spent(passes, letter, pack, slots) for letter in "cLx")
 
 

@@ -169,7 +169,7 @@ class Synced(Session):
         return spent
 
 
-# ---- statements, each in each of its forms, one behind the other
+# ---- statements, each in each of its forms, one after the other
 class Found:
     """The milliseconds of each round, by the statement, the rows of a block and the form, and the peaks of memory."""
 

@@ -55,7 +55,7 @@ def case(name, words, body, total, said, more=()):
 
 
 def session(*names, total=None, kept=True):
-    """A session, or some as one, each answer behind its statement; where its tables may be kept, in two runs, too."""
+    """A session, or some as one, each answer after its statement; where its tables may be kept, in two runs, too."""
     sql, out = [lines_of(f"{name}.sql") for name in names], [lines_of(f"{name}.out") for name in names]
     texts, said = statements(sum((lines[1:] for lines in sql), [])), answers(sum(out, []))
     assert len(texts) == len(said) and len({lines[0] for lines in sql}) == 1

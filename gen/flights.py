@@ -32,7 +32,7 @@ def fields(values):
     return ",".join(f'"{value}"' for value in values)
 
 
-# ---- what a statement asks, and prints behind it
+# ---- what a statement asks, and prints after it
 
 
 class Act:
@@ -413,7 +413,7 @@ def full(name, session, size):
 
 
 def untraced(name, session, size):
-    """The sink of the accesses takes so many bytes: what asked those behind them is answered, and nothing follows."""
+    """The sink of the accesses takes so many bytes: what asked those after them is answered, and nothing follows."""
     taken, at = 0, 0
     for at, step in enumerate(session.steps):
         taken += sum(len(access) + 1 for access in step.asked)
@@ -424,7 +424,7 @@ def untraced(name, session, size):
 
 
 def ends_of(sizes, after):
-    """Where those lines begin that end behind so many bytes."""
+    """Where those lines begin that end after so many bytes."""
     begun, begins = 0, []
     for size in sizes:
         if begun >= after:
@@ -682,7 +682,7 @@ def lasting():
 
 
 class Flown(Run):
-    """A run over generated text whose SELECTs fly: it has four of them one behind the other, and then one alone."""
+    """A run over generated text whose SELECTs fly: it has four of them one after the other, and then one alone."""
 
     def __init__(self, most, start, buffer=64, pack=1, pad=None):
         super().__init__(buffer=buffer, pack=pack, pad=pad)

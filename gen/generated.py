@@ -16,7 +16,7 @@ def up(a, b):
 
 
 def digits(start, rows):
-    """The values of the rows, by the sequence behind this number."""
+    """The values of the rows, by the sequence after this number."""
     x = start
     for _ in range(rows):
         x = (x * 6364136223846793005 + 1442695040888963407) % 2**64
@@ -166,7 +166,7 @@ class Run:
         return fits
 
     def select(self, region, slots, width, selected):
-        """A SELECT of rows, behind a join too: whether it was answered."""
+        """A SELECT of rows, after a join too: whether it was answered."""
         self.scan(region, slots)
         k = len(selected)
         if self.pad:
@@ -306,7 +306,7 @@ def spelt(asked):
 
 
 def unread(start, rows):
-    """The trace is spelt, and the first read of the input would fail: it is made behind the run."""
+    """The trace is spelt, and the first read of the input would fail: it is made after the run."""
     run = Run()
     run.serve(start, rows)
     more = ["reads fail 1", "left 0", *spelt(run.asked)]

@@ -118,7 +118,7 @@ class Session:
         return index
 
     def create(self, name, capacity, *behind, columns=COLUMNS, text=None):
-        """Where an access of it fails, this is answered behind it."""
+        """Where an access of it fails, this is answered after it."""
         before = len(self.run.asked)
         self.indexes[name] = self.makes(capacity, columns)
         text = text or f"CREATE TABLE {name} {columns} CAPACITY {capacity} INDEXED;"
@@ -307,7 +307,7 @@ def one_key():
 
 
 def all_kinds():
-    """Each statement in its turn over an index that fills, and behind that the same keys again."""
+    """Each statement in its turn over an index that fills, and after that the same keys again."""
     s = Session("all keys of an index, written, changed and deleted", "--buffer 64 --stash 4", 4)
     s.create("o", 16)
     for key in (3, 1, 4, 15, 9, 2, 6, 5, 8, 7, 0, 10, 11, 12, 13, 14):

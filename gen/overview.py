@@ -16,7 +16,7 @@ STYLE = (
 ARROW = '<marker id="e" viewBox="0 0 8 8" refX="8" refY="4" markerWidth="8" markerHeight="8" orient="auto"><path d="M0 0L8 4L0 8z" fill="#333"/></marker>'
 
 # What there is of each kind in the picture of layers, and the title of each layer.
-PROGRAMS = ("oblidb", "oblitrace", "ob_cases", "ob_drawn", "ob_spelled", "ob_stored", "ob_passed", "ob_flight_tests", "ob_oram_bench")
+PROGRAMS = ("oblidb", "oblitrace", "ob_cases", "ob_drawn", "ob_text_tests", "ob_storage_tests", "ob_pass_tests", "ob_flight_tests", "ob_oram_bench")
 MEASURED = ("ob_parse_bench", "ob_pass_bench")
 
 

@@ -332,7 +332,7 @@ class SavedText(Run):
             super().discard(region)
 
     def count(self, answered, rows=0):
-        """Behind a statement that changed tables they are saved."""
+        """After a statement that changed tables they are saved."""
         super().count(answered, rows)
         if self.tables != self.saved:
             self.save()
@@ -374,7 +374,7 @@ def spelt(asked):
 
 
 class Session:
-    """What is typed in a run that is to die, behind what an earlier run has left, and in the run that goes on."""
+    """What is typed in a run that is to die, after what an earlier run has left, and in the run that goes on."""
 
     def __init__(self, name, before, statements, then):
         self.name, self.before, self.statements, self.then = name, before, statements, then

@@ -84,7 +84,7 @@ def changes(path):
 
 
 def owner(text, place):
-    """What the prover puts before the name of a method: its type, and its trait behind that."""
+    """What the prover puts before the name of a method: its type, and its trait after that."""
     heads = [head for head in IMPL.finditer(text) if head.start() <= place]
     if not heads:
         return ""

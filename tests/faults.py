@@ -40,7 +40,7 @@ ENDS = {
     0: "= .*|", 1: "= .*|E[0-9]{2} .*|", 3: "! store fault", 5: "! source fault|", 6: ".*", 7: "! no memory|", 9: "! no mark", 10: "! keeper fault",
     127: "",
 }
-# A fault: which call, which of its kind, with what error, and whether all behind it fail, too.
+# A fault: which call, which of its kind, with what error, and whether all after it fail, too.
 Fault = collections.namedtuple("Fault", "call at error lasts")
 
 
@@ -89,7 +89,7 @@ def is_documented(ran, fault):
 
 
 def wrong_with(program, workload, base, before, run, fault, folder):
-    """What is wrong behind a fault, if anything is."""
+    """What is wrong after a fault, if anything is."""
     shutil.copytree(base, folder, symlinks=True)
     inject = f"{fault.call}:error={fault.error}:when={fault.at}{fault.lasts}"
     ran = runs.run([*runs.behind_strace(fault.call, inject), *command(program, workload, run)], text_of(run), folder)

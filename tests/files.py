@@ -24,7 +24,7 @@ COUNT = "SELECT COUNT(*) FROM t;\n"
 ONE, TWO = (['"COUNT(*)"', f'"{count}"', "= 1 rows"] for count in (1, 2))
 FAULT = ["E15 store fault"]
 BIG = "CREATE TABLE big (id INT) CAPACITY {};\n"
-# A join whose result, by Hash, is longer than the joined region: the disk is full behind that one.
+# A join whose result, by Hash, is longer than the joined region: the disk is full after that one.
 JOINED = MADE + "CREATE TABLE u (id INT, v INT) CAPACITY 8;\n" + "".join(f"INSERT INTO u VALUES (1, {n});\n" for n in range(8))
 JOINED_LINES = MADE_LINES + ["= created"] + ["= inserted"] * 8
 JOIN, HASH = "SELECT * FROM t JOIN u ON t.id = u.id;\n", ("--plan", "hash", "--depth", "8")

@@ -46,7 +46,7 @@ THERE, GONE, TORN, ZEROS = "there", "gone", "torn", "zeros"
 
 
 def written(content, change, how):
-    """What a file holds behind a change that is there so far."""
+    """What a file holds after a change that is there so far."""
     if how == GONE:
         return content
     if isinstance(change, Cut):
@@ -57,7 +57,7 @@ def written(content, change, how):
 
 
 def named(names, change, how):
-    """The names of a folder behind a change that is so, or not."""
+    """The names of a folder after a change that is so, or not."""
     if how == GONE:
         return names
     kept = {name: node for name, node in names if name not in change.changes}
@@ -178,7 +178,7 @@ def command(program, workload, run):
 
 
 def recorded(program, workload, variant, folder):
-    """The moments of these runs, one behind the other, from the one on that is hindered; or none where that wasn't."""
+    """The moments of these runs, one after the other, from the one on that is hindered; or none where that wasn't."""
     for name in ("disk", "safe"):
         os.makedirs(os.path.join(folder, name))
     if workload.place == "link":
@@ -277,7 +277,7 @@ def lay_out(state, folder):
 
 
 def may_have(moment):
-    """The tables that may be there behind this moment."""
+    """The tables that may be there after this moment."""
     whole = moment.said.decode(errors="replace").rpartition("\n")[0].splitlines()
     answers, _ = workloads.split_answers(whole)
     return workloads.possible(moment.before, moment.run.texts, workloads.most_of(moment.run.words), answers)

@@ -32,7 +32,7 @@ IDENTITY = re.compile(r"ribquince 1 [0-9a-f]{32}\n")
 COMPLAINT = re.compile(r"oblidb: [^\n]*[^\n:]: [^\n]+\n")
 COMPLAINS = (2, 3, 9, 10)
 WAITED = "it waits"
-# Nothing here takes as long as a minute; a run that isn't over behind five waits for what doesn't come.
+# Nothing here takes as long as a minute; a run that isn't over after five waits for what doesn't come.
 LONGEST = 300
 
 Ran = collections.namedtuple("Ran", "lines status said")
@@ -202,7 +202,7 @@ class Typed:
             pass
 
     def line(self):
-        """The next line of the answers, or nothing behind the last one."""
+        """The next line of the answers, or nothing after the last one."""
         return self.child.stdout.readline().rstrip("\n")
 
     def lines(self, count):
@@ -242,7 +242,7 @@ class Typed:
         self.child.wait()
 
     def end(self):
-        """The rest of the answers behind the end of the input, and the status."""
+        """The rest of the answers after the end of the input, and the status."""
         try:
             self.child.stdin.close()
         except BrokenPipeError:

@@ -51,12 +51,12 @@ def typed(texts):
 
 
 def behind(texts):
-    """The tables behind these texts."""
+    """The tables after these texts."""
     return workloads.served((), texts)[1][-1]
 
 
 def said(texts, before=FIRST):
-    """The lines that these texts are answered behind others."""
+    """The lines that these texts are answered after others."""
     return [line for answer in workloads.served(behind(before), texts)[0] for line in answer]
 
 
@@ -290,7 +290,7 @@ WIDE = (create("n", 4, "VARCHAR(60)").replace(" v ", " s "), *insert("n", (1, "'
 
 
 def written(at, folder, texts, *words, killed=(), save=("--save",)):
-    """The blocks that a run writes to its regions, also those that are gone behind it."""
+    """The blocks that a run writes to its regions, also those that are gone after it."""
     trace = os.path.join(at.room, "written")
     calls = ",".join(["pwrite64", *killed[:1]])
     first = runs.behind_strace(calls, *killed[1:], to=trace, more=("-xx", "-s", "100000"))

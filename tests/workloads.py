@@ -9,7 +9,7 @@ import re
 
 # A run of a workload: what is typed, by which words, and which of its calls are hindered, as strace spells it.
 Run = collections.namedtuple("Run", "texts words hindered", defaults=(None,))
-# A workload: its name; its variants, each some runs over one folder, one behind the other; and where its mark lies.
+# A workload: its name; its variants, each some runs over one folder, one after the other; and where its mark lies.
 Workload = collections.namedtuple("Workload", "name variants place", defaults=("beside",))
 
 FAULT = "E15 store fault"
@@ -31,7 +31,7 @@ def batches(texts, most):
 
 
 def answered(tables, text):
-    """The lines that a statement is answered over these tables, the rows in order, and the tables behind it."""
+    """The lines that a statement is answered over these tables, the rows in order, and the tables after it."""
     word, *rest = re.findall(r"'[^']*'|\w+", text)
     held = {name: (capacity, rows) for name, capacity, rows in tables}
     name = rest[rest.index("FROM") + 1] if "FROM" in rest else rest[0] if word == "UPDATE" else rest[1]
@@ -71,7 +71,7 @@ def changed(held, word, name, rest):
 
 
 def served(tables, texts):
-    """The lines that statements are answered one behind the other, and the tables behind each of them, from these on."""
+    """The lines that statements are answered one after the other, and the tables after each of them, from these on."""
     lines, behind = [], [tables]
     for text in texts:
         said, tables = answered(tables, text)
@@ -95,7 +95,7 @@ def split_answers(lines):
 
 
 def fits(tables, part, given):
-    """The tables behind texts that were served together and began to be answered so, or none if they can't have been."""
+    """The tables after texts that were served together and began to be answered so, or none if they can't have been."""
     if [FAULT] in given:
         return tables if all(said == [FAULT] or said[0][:3] in ("E02", "E03") for said in given) else None
     lines, behind = served(tables, part)

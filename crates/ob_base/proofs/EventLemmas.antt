@@ -78,7 +78,7 @@ module _ {E : Type 0} (grew : E → E → List Event → Type 0) where
   pub halted_none : {C : Type 0} (all : C → List Event) (a : E) → IsHalted grew grew all a a
   halted_none all a = record { events = []; ends = λ s events is. subst (grew s a) (sym (append-nil events)) is; told = λ x. (all x, refl) }
 
-  -- rows were emitted behind their header
+  -- rows were emitted after their header
   pub begun_under : {A : Type 0} (head : List Event) (shown : A → List (List Shown)) (a b c : E) → Leads grew grew a b head → IsBegun grew [] shown b c → IsBegun grew head shown a c
   begun_under head shown a b c first second = record {
     rows = second.rows;

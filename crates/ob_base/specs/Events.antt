@@ -20,18 +20,18 @@ EmitCause (Err Failed) old new = Rises old new
 abbrev pub row_events : List (List Shown) → List Event
 row_events rows = map Row rows
 
--- an emitter that took some events took these behind them
+-- an emitter that took some events took these after them
 abbrev pub Leads : {E : Type 0} → (E → E → List Event → Type 0) → (E → E → List Event → Type 0) → E → E → List Event → Type 0
 Leads {E} grew to old new more = (s : E) (events : List Event) → grew s old events → to s new (events ++ more)
 
--- rows were emitted behind these events, `to - from` of them, and they are those of each source
+-- rows were emitted after these events, `to - from` of them, and they are those of each source
 pub record IsEmitted {E Source : Type 0} (grew : E → E → List Event → Type 0) (head : List Event) (shown : Source → List (List Shown)) (from to : ℕ) (old new : E) : Type 0 where
   pub rows : List (List Shown)
   pub count : to ≡ from + length rows
   pub leads : Leads grew grew old new (head ++ row_events rows)
   pub told : (source : Source) → rows ≡ shown source
 
--- some rows were emitted behind these events, and they are the first of those of each source
+-- some rows were emitted after these events, and they are the first of those of each source
 pub record IsBegun {E Source : Type 0} (grew : E → E → List Event → Type 0) (head : List Event) (shown : Source → List (List Shown)) (old new : E) : Type 0 where
   pub rows : List (List Shown)
   pub leads : Leads grew grew old new (head ++ row_events rows)

@@ -36,6 +36,6 @@ rows_open height slots = slots + path_blocks height + 1
 abbrev pub leaf_of_draw : ℕ → ℕ → ℕ
 leaf_of_draw height draw = draw % 2 ^ height
 
--- the slots of a table as it lies: those of an index's tree, and of its stash behind them
+-- the slots of a table as it lies: those of an index's tree, and of its stash after them
 abbrev pub slots_in_place : (stash : ℕ) → Heading → ℕ
 slots_in_place stash h = by_shape h.shape h.capacity (tree_blocks (height_of h.capacity) + stash)

@@ -40,7 +40,7 @@ pub struct Config {
     pub stash: u32,
     /// Whether the tables are kept from a run to the next.
     pub keep: bool,
-    /// Whether they are saved behind each statement that changes them: then they are kept, too.
+    /// Whether they are saved after each statement that changes them: then they are kept, too.
     pub save: bool,
     /// How many INSERTs that follow one another into one flat table may be served in one pass, where they
     /// are gathered: 2 to 65,535.

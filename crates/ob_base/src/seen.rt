@@ -11,7 +11,7 @@ pub enum End {
     /// It was refused after the count, because the selected slots aren't consecutive.
     AfterCount,
     /// It was served with the INSERT before it, in the accesses of that one.
-    Joined,
+    Batched,
     /// It was stopped, or the store failed, after so many accesses.
     Cut(u64),
 }

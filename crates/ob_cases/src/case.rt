@@ -88,7 +88,7 @@ pub struct Run {
     pub total: Option<u64>,
     /// How many are asked, traced or not.
     pub asked: Option<u64>,
-    /// How many bytes are read of the input behind the run, to its end or to a call that fails.
+    /// How many bytes are read of the input after the run, to its end or to a call that fails.
     pub left: Option<u64>,
     pub status: u64,
     /// The mark that the keeper holds afterwards; without one it isn't looked at.
@@ -102,9 +102,9 @@ pub struct Case {
     /// The mark that the keeper holds before the first run, where there is one: without it a single run is served over
     /// a store that its words have changed.
     pub keeper: Option<String>,
-    /// The numbers of the keeper's calls that fail, over all runs. To look at the mark behind a run is a call.
+    /// The numbers of the keeper's calls that fail, over all runs. To look at the mark after a run is a call.
     pub faults: Vec<u64>,
-    /// The salts that the keeper draws, one after the other; behind the last one it fails.
+    /// The salts that the keeper draws, one after the other; after the last one it fails.
     pub salts: Vec<[u8; 16]>,
     pub runs: Vec<Run>,
     /// Whether the rows of an answer may come in any order.
@@ -386,7 +386,7 @@ impl Case {
     }
 }
 
-/// Pushes a case behind the others.
+/// Pushes a case after the others.
 pub fn push_case(cases: &mut Vec<Case>, case: Case) -> Result<(), LineErr> {
     match cases.push(case) {
         Ok(()) => Ok(()),
@@ -457,7 +457,7 @@ fn saved_of(text: &str) -> Result<Mark, LineErr>
     })
 }
 
-// A number from 1 to this one before a text's first blank, and what is behind it.
+// A number from 1 to this one before a text's first blank, and what is after it.
 fn numbered(text: &str, most: u64) -> Result<(u64, &str), LineErr>
     ensures { IfOk result (λ r. (1 ≤ r.0) × (r.0 ≤ most)) }
 {
@@ -506,7 +506,7 @@ fn push_numbers(numbers: &mut Vec<u64>, text: &str) -> Result<(), LineErr> {
     Ok(())
 }
 
-// Puts a line and its end behind what is there.
+// Puts a line and its end after what is there.
 fn push_line(bytes: &mut Vec<u8>, line: &str) -> Result<(), LineErr> {
     bytes.extend_from_slice(line.as_bytes())?;
     bytes.push(b'\n')?;

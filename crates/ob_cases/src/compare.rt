@@ -11,7 +11,7 @@ pub struct Came<'a> {
     pub trace: &'a [u8],
     /// How many accesses were asked.
     pub asked: u64,
-    /// How many bytes are read of the input behind the run, where it wants to know.
+    /// How many bytes are read of the input after the run, where it wants to know.
     pub left: u64,
     pub status: u8,
     /// The mark that the keeper holds, where there is a keeper and it told.
@@ -76,7 +76,7 @@ fn first(bytes: &[u8], count: Option<u64>) -> Option<&[u8]> {
     }
 }
 
-// The lines of some answers, in which the rows behind each header are sorted.
+// The lines of some answers, in which the rows after each header are sorted.
 fn ordered(alloc: Global, answers: &[u8]) -> Result<Vec<&[u8]>, AllocError> {
     let mut lines = Vec::new(alloc);
     let mut rows = Vec::new(alloc);

@@ -8,7 +8,7 @@ use std::alloc::Global;
 /// The salts of two runs, where they save their tables.
 const SALTS: &str = "01010101010101010101010101010101, 02020202020202020202020202020202";
 
-/// Pushes the cases whose input ends behind each of its bytes, and before the first one.
+/// Pushes the cases whose input ends after each of its bytes, and before the first one.
 pub fn push_cut(
     alloc: Global,
     of: &Lines,
@@ -78,7 +78,7 @@ pub fn push_parted(
     Ok(())
 }
 
-// Feeds a case with a run of the statements behind the first `from` ones up to this one.
+// Feeds a case with a run of the statements after the first `from` ones up to this one.
 fn feed_run(
     alloc: Global,
     case: &mut Case,

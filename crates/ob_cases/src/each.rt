@@ -196,7 +196,7 @@ fn is_opened(items: &[Item], at: Item, region: &str) -> bool {
     opened
 }
 
-// Feeds a case with all lines but those that are for made cases alone.
+// Feeds a case with all lines except those that are for made cases alone.
 fn feed_whole(alloc: Global, case: &mut Case, items: &[Item]) -> Result<(), LineErr> {
     for item in items {
         match item.head {
@@ -223,8 +223,8 @@ fn feed_to(alloc: Global, case: &mut Case, items: &[Item], at: Item) -> Result<(
     Ok(())
 }
 
-// Feeds a case with what comes behind the statement of an access that failed: what its lines `else` say, or else what is
-// answered behind it, and as many accesses as are asked there.
+// Feeds a case with what comes after the statement of an access that failed: what its lines `else` say, or else what is
+// answered after it, and as many accesses as are asked there.
 fn feed_behind(alloc: Global, case: &mut Case, items: &[Item], at: Item) -> Result<(), LineErr> {
     let (mut says, mut asks) = (false, false);
     let mut asked: u64 = 0;

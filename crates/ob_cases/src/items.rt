@@ -11,7 +11,7 @@ pub struct Item<'a> {
     pub place: u64,
     /// The number of its run, from 0.
     pub run: u64,
-    /// How many statements are typed up to it. Lines `>` one behind the other are one statement.
+    /// How many statements are typed up to it. Lines `>` one after the other are one statement.
     pub statement: u64,
     /// How many accesses its run asks up to it, with it.
     pub number: u64,
@@ -43,7 +43,7 @@ pub fn items_of<'a>(alloc: Global, lines: &[&'a str]) -> Result<Vec<Item<'a>>, L
     Ok(items)
 }
 
-// The item behind another one.
+// The item after another one.
 fn next<'a>(last: Item<'a>, head: &'a str, rest: &'a str) -> Item<'a> {
     let begins_run = head == "then";
     let begins_statement = is_typed(head) && !is_typed(last.head);

@@ -90,7 +90,7 @@ fn sink_of(alloc: Global, taking: &Taking) -> Result<MemSink, LineErr> {
     Ok(MemSink::new(alloc, room, copied(alloc, taking.fail.as_slice())?)?)
 }
 
-// How many bytes are read of the input behind a run, where it wants to know: to the end, or to a call that fails.
+// How many bytes are read of the input after a run, where it wants to know: to the end, or to a call that fails.
 fn left_in(run: &Run, input: &mut MemSource) -> u64 {
     let mut left: u64 = 0;
     if run.left.is_none() {

@@ -1,4 +1,4 @@
-//! What an input holds behind its first line, as far as its bytes tell.
+//! What an input holds after its first line, as far as its bytes tell.
 
 /// How many whole texts there are, and whether another one has begun.
 #[derive(Clone, Copy, Debug, PartialEq, Eq)]
@@ -12,13 +12,13 @@ pub struct Texts {
 enum Place {
     FirstLine,
     Text,
-    // Behind one `-`, which begins a comment with another one.
+    // After one `-`, which begins a comment with another one.
     Dash,
     Comment,
     Quotes,
 }
 
-/// The texts of so many first bytes of an input. One of nothing but comments is none.
+/// The texts of so many first bytes of an input. One of nothing except comments is none.
 pub fn texts_in(input: &[u8], size: usize) -> Texts {
     let mut place = Place::FirstLine;
     let mut texts = Texts {

@@ -1,4 +1,4 @@
--- A token that may stand behind each part.
+-- A token that may stand after each part.
 use Rattle.std.proofs.Common.{refl}
 use Rattle.ob_token.specs.declared.token.Mark.TheVariants as M
 use Rattle.ob_token.specs.declared.token.Lexeme.TheVariants as L

@@ -20,7 +20,7 @@ use Rattle.ob_condition.specs.Conditions.{bare, qualified, Column, Comparison, S
 use Rattle.ob_condition.specs.Reading.{column, comparison, cond_of, condition, conj_of, constant, grouped, negated, operand, prim}
 use Rattle.ob_condition.proofs.Told.{of, apart, apart_name, apart_some, no_key}
 
--- what may stand behind a column, behind AND's parts, and behind a condition
+-- what may stand after a column, after AND's parts, and after a condition
 abbrev pub AfterColumn : Token → Type 0
 AfterColumn t = is M.Dot t.lexeme ≡ false
 

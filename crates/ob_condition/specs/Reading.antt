@@ -16,7 +16,7 @@ use Rattle.ob_sql.specs.Search.{Search, search_of, Compare, Not, And, Or}
 use Rattle.ob_condition.specs.Marks.{key, literal_of, name_of, number_of, order_of, sign_of, signed}
 use Rattle.ob_condition.specs.Conditions.{bare, qualified}
 
--- what reading tokens gives: a value and the tokens behind it, or the tokens at which it is stuck
+-- what reading tokens gives: a value and the tokens after it, or the tokens at which it is stuck
 abbrev pub Read : Type 0 → Type 0
 Read V = Result (V × List Token) (List Token)
 
@@ -42,12 +42,12 @@ abbrev pub Takes : Result (Bor (List Token)) Fault → Read (Unit {0}) → Type 
 Takes (Ok rest) read = read ≡ Ok (tt, rest.now)
 Takes (Err fault) read = Fails fault read
 
--- the tokens behind the first one, where that is the one sought
+-- the tokens after the first one, where that is the one sought
 abbrev pub Skips : {U : Type 0} → (Token → Option U) → List Token → Option (Bor (List Token)) → Type 0
 Skips k ts None = (t : Token) (after : List Token) → ts ≡ t ∷ after → k t ≡ None
 Skips {U} k ts (Some rest) = (t : Token) × (u : U) × (k t ≡ Some u) × (ts ≡ t ∷ rest.now)
 
--- the first token's value and the tokens behind it, where it has one
+-- the first token's value and the tokens after it, where it has one
 abbrev pub Begun : {U : Type 0} → (Token → Option U) → List Token → Option (U × Bor (List Token)) → Type 0
 Begun k ts None = (t : Token) (after : List Token) → ts ≡ t ∷ after → k t ≡ None
 Begun k ts (Some p) = (t : Token) × (k t ≡ Some p.0) × (ts ≡ t ∷ p.1.now)

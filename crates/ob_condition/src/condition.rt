@@ -15,7 +15,7 @@ use std::alloc::{AllocError, Global};
 const DEPTH: u32 = 32;
 
 /// A column, with its table's name and a dot before it or without (a column reference of ISO/IEC 9075:1992), and
-/// the tokens behind it. It takes no memory.
+/// the tokens after it. It takes no memory.
 #[tactic(auto, unfolding(crate::specs::Reading::column))]
 pub fn column(tokens: &[Token]) -> Result<(ColumnName, &[Token]), Fault<'_>>
     ensures value { Gives (λ c. c) result (column tokens.now) }
@@ -41,7 +41,7 @@ pub fn column(tokens: &[Token]) -> Result<(ColumnName, &[Token]), Fault<'_>>
     }
 }
 
-/// A literal, of the tokens of this text, and the tokens behind it: a number of digits with a sign or without, or
+/// A literal, of the tokens of this text, and the tokens after it: a number of digits with a sign or without, or
 /// a text between quotes. An integer outside 64 bits and a text above 255 bytes are kept as such. It takes no
 /// memory.
 #[tactic(auto, unfolding(crate::specs::Reading::constant))]
@@ -207,8 +207,8 @@ fn condition<'a>(
     Ok((Cond::new(Box::into_inner(tree)), rest))
 }
 
-/// The condition behind WHERE, or none where the first of the tokens of this text is another, and the tokens
-/// behind it. NOT binds before AND, and AND before OR, as in ISO/IEC 9075:1992; both group to the left, and at
+/// The condition after WHERE, or none where the first of the tokens of this text is another, and the tokens
+/// after it. NOT binds before AND, and AND before OR, as in ISO/IEC 9075:1992; both group to the left, and at
 /// most 32 of NOT and `(` stand on a path. It takes one box for each comparison, NOT, AND and OR, and no memory
 /// where there is no WHERE.
 #[tactic(auto, unfolding(crate::specs::Reading::where_part))]

@@ -20,7 +20,7 @@ pub enum Fault<'a> {
     Stuck(&'a [Token]),
 }
 
-/// The tokens behind the first one, where that is this keyword or sign.
+/// The tokens after the first one, where that is this keyword or sign.
 pub fn skip(tokens: &[Token], mark: Mark) -> Option<&[Token]>
     ensures { Skips (key mark) tokens.now result }
 {
@@ -31,7 +31,7 @@ pub fn skip(tokens: &[Token], mark: Mark) -> Option<&[Token]>
     }
 }
 
-/// The tokens behind the first one, which has to be this keyword or sign. It takes no memory.
+/// The tokens after the first one, which has to be this keyword or sign. It takes no memory.
 pub fn expect(tokens: &[Token], mark: Mark) -> Result<&[Token], Fault<'_>>
     ensures value { Takes result (token (key mark) tokens.now) }
     ensures no_memory { IfErr result IsStuck }
@@ -42,7 +42,7 @@ pub fn expect(tokens: &[Token], mark: Mark) -> Result<&[Token], Fault<'_>>
     }
 }
 
-/// The name that the first token is, in lower case, and the tokens behind it. It takes no memory.
+/// The name that the first token is, in lower case, and the tokens after it. It takes no memory.
 pub fn name(tokens: &[Token]) -> Result<(Name, &[Token]), Fault<'_>>
     ensures value { Gives (λ n. n) result (token name_of tokens.now) }
     ensures no_memory { IfErr result IsStuck }
@@ -145,7 +145,7 @@ pub(crate) fn with_sign(minus: bool, number: u64) -> Literal
     }
 }
 
-// The text behind an opening quote.
+// The text after an opening quote.
 fn quoted(bytes: &[u8]) -> Literal
     ensures { result ≡ short_text (unquoted true bytes.now) }
 {

@@ -19,7 +19,7 @@ done_before all z inside = omega (arith, inside)
 pub done_after : (all z : ℕ) → z < all → min (z + 1) all ≡ z + 1
 done_after all z inside = omega (arith, inside)
 
--- one behind it
+-- one after it
 pub slot_past : (pack n u z : ℕ) → n ≤ u * pack + z → min (z + 1) (slots_in pack n u) ≡ min z (slots_in pack n u)
 slot_past pack n u z past = omega (arith, past)
 

@@ -83,7 +83,7 @@ due_read order pack place to a b x went turns is = record {
   written = λ p below. written_went none a b x to.region p went (λ s. s) (is.written p below);
 }
 
--- its blocks are those of its slots, and of empty ones behind them
+-- its blocks are those of its slots, and of empty ones after them
 pub represents_held : (pack : ℕ) (to : Flat) (slots : Slots) (w : World) → length slots ≡ to.capacity → HoldsSlots pack to (whole_blocks pack to.capacity slots) w → Represents pack to slots w
 represents_held pack to slots w size is =
     let all = whole_blocks pack to.capacity slots in

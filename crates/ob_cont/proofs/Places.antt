@@ -19,7 +19,7 @@ abbrev put_places : ℕ → Slots → Slots → List ℕ → Slots
 put_places k slots made [] = made
 put_places k slots made (i ∷ is) = put_places k slots (slice_set made (i % k) (slot_at slots i)) is
 
--- the slot behind the first ones
+-- the slot after the first ones
 at_seam : (first : Slots) (s : Option Row) (slots : Slots) → slot_at (first ++ s ∷ slots) (length first) ≡ s
 at_seam [] None slots = refl
 at_seam [] (Some row) slots = refl
@@ -106,7 +106,7 @@ both false b is = absurd cc
 is_same : (a b : ℕ) → IsTrue (a == b) → a ≡ b
 is_same a b is = grind (arith, nat_tests)
 
--- the places behind place i, fewer than k, are none that is the same modulo k
+-- the places after place i, fewer than k, are none that is the same modulo k
 none_behind : (k i last : ℕ) (is : List ℕ) → i ≤ last → IsTrue (is_consecutive (last ∷ is)) → last + length is < i + k → find (λ j. j % k == i % k) is ≡ None
 none_behind k i last [] past is_one few = refl
 none_behind k i last (j ∷ is) past next few =

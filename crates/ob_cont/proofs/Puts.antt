@@ -17,7 +17,7 @@ use Rattle.ob_cont.specs.Putting.{put_if, put_at}
 use Rattle.ob_cont.proofs.Places.{within, length-put_if}
 
 module _ {A : Type 0} (r : ℕ) (all : List A) (p : ℕ) where
-  -- a list in three parts: what stands before a block, the block, and what stands behind it
+  -- a list in three parts: what stands before a block, the block, and what stands after it
   in_parts : with_block r all p (block_at r all p) ≡ all
   in_parts =
       let next : (p + 1) * r ≡ p * r + r = grind arith in

@@ -15,7 +15,7 @@ ghost use Rattle.ob_cont.specs.Selecting.{AreBuffers, Selects, select_length};
 
 use crate::filling::fill_result;
 use ob_flat::{Flat, OpErr, create_blocks};
-use ob_room::{ClearRow, Room};
+use ob_room::{ClearRow, RowBuffer};
 use ob_row::Pred;
 use ob_store::BlockStore;
 use ob_vault::{Order, Revisions, Vault};
@@ -78,7 +78,7 @@ fn select_rows<S: BlockStore, R: Revisions>(
 pub fn select<S: BlockStore, R: Revisions>(
     store: &mut S,
     vault: &mut Vault<R>,
-    room: &mut Room,
+    room: &mut RowBuffer,
     flat: &Flat,
     pred: &Pred,
     k: u32,

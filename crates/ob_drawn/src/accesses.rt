@@ -145,7 +145,7 @@ impl Accesses {
         self.end_batch();
         match answer {
             Answer::Rows(rows) => self.serve(stmt, rows.as_slice().len() as u64),
-            // (over flat tables no other refusals come behind accesses)
+            // (over flat tables no other refusals come after accesses)
             Answer::Refused(Refusal::Duplicate | Refusal::Full | Refusal::TooManyGroups)
             | Answer::Done
             | Answer::Changed(_) => self.serve(stmt, 0),

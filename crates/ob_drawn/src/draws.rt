@@ -61,7 +61,7 @@ impl Draws {
         order
     }
 
-    /// Writes a keyword, behind a blank where it isn't the first, in some case: in capitals twice as often as in small
+    /// Writes a keyword, after a blank where it isn't the first, in some case: in capitals twice as often as in small
     /// letters, or with a capital first.
     pub fn keyword(&mut self, to: &mut Pen, word: &str) {
         let capitals = match self.below(4) {

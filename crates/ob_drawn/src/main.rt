@@ -1,5 +1,5 @@
 //! Draws sessions, has the engine and the plain evaluator answer them, and compares what both say: each header, the rows
-//! behind it in any order, each last line, and the status. Sessions with runs of INSERTs are served with `--batch`, too,
+//! after it in any order, each last line, and the status. Sessions with runs of INSERTs are served with `--batch`, too,
 //! and how many accesses they ask is compared with what the specification counts.
 //!
 //! The words are `[SEED [SESSIONS]]`: a number by which all is drawn, 1 without it, and how many sessions there are. It

@@ -1,4 +1,4 @@
-//! Bytes that are written one behind the other.
+//! Bytes that are written one after the other.
 use itoa::{Buffer, Integer};
 use std::alloc::Global;
 

@@ -26,7 +26,7 @@ fn home(tables: &Tables, scope: &[&'static str], name: &str) -> &'static str {
     scope.first().copied().unwrap_or("")
 }
 
-// Writes one to three columns with their labels: behind a join a label has the column's table.
+// Writes one to three columns with their labels: after a join a label has the column's table.
 fn put_list(
     draws: &mut Draws,
     tables: &Tables,

@@ -78,7 +78,7 @@ pub fn serve(alloc: Global, line: &str, typed: &[u8]) -> Result<Served, AllocErr
     })
 }
 
-// The lines of some answers, in which the rows behind each header are sorted.
+// The lines of some answers, in which the rows after each header are sorted.
 fn ordered(alloc: Global, answers: &[u8]) -> Result<Vec<&[u8]>, AllocError> {
     let mut lines = Vec::new(alloc);
     let mut rows = Vec::new(alloc);

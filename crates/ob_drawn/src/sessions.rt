@@ -23,7 +23,7 @@ pub struct Session {
     pub seed: u64,
     pub number: u64,
     pub settings: Settings,
-    /// What is typed behind the first line.
+    /// What is typed after the first line.
     pub typed: Pen,
     /// What is answered.
     pub answers: Pen,

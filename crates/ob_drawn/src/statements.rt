@@ -100,7 +100,7 @@ fn put_statement(
     Ok(What::Select)
 }
 
-// Writes a statement with a comment behind its first word, with a byte less or with a token more. Gives whether it is one
+// Writes a statement with a comment after its first word, with a byte less or with a token more. Gives whether it is one
 // still, since it is a comment.
 fn put_changed(draws: &mut Draws, whole: &[u8], text: &mut Pen) -> bool {
     let is_comment = draws.chance(30);

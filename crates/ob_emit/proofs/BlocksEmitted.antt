@@ -113,7 +113,7 @@ module _ (pack : ℕ) (flat : Flat) (cols : List ℕ) where
                 ∙ blocks_more pack flat cols s.slots w held is.table.some done below;
           }
 
-      -- what an emitter took behind a header
+      -- what an emitter took after a header
       module _ (head : List Event) (a b : E) (leads : Leads grew grew a b (head ++ row_events shown)) where
         -- it gave up in the next block
         pub emitted_ends : (e : OpErr) (later : World) (c : E) → done < blocks_of pack flat → EmitsBlock grew cut faults pack flat cols done k (Err e) w later b c
@@ -173,7 +173,7 @@ module _ (pack : ℕ) (flat : Flat) (cols : List ℕ) where
             told = λ slots held nolie. tt;
           }
 
--- rows were emitted, and more behind them
+-- rows were emitted, and more after them
 pub leads_more : {E : Type 0} (grew : E → E → List Event → Type 0) (head : List Event) (shown more : List (List Shown)) (a b c : E)
     → Leads grew grew a b (head ++ row_events shown) → Leads grew grew b c (row_events more) → Leads grew grew a c (head ++ row_events (shown ++ more))
 leads_more grew head shown more a b c first second = λ s events is.

@@ -1,4 +1,4 @@
--- A table's rows behind its header.
+-- A table's rows after its header.
 use Rattle.std.proofs.Common.{◌≡◌, ◌⊎◌, inl, inr, ℕ, List, [], Result, Ok, Err, refl, ◌∙◌, ap, subst}
 use Rattle.ob_base.specs.Events.{Event, row_events, Leads}
 use Rattle.ob_script.specs.Parts.{count_part}

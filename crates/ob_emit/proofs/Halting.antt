@@ -73,7 +73,7 @@ pub emitted_of : {E A B : Type 0} (grew : E → E → List Event → Type 0) (he
 emitted_of grew head sa sb from to a b is same = record { rows = is.rows; count = is.count; leads = is.leads; told = λ x. let y = same x in is.told y.0 ∙ y.1 }
 
 module _ {E : Type 0} (grew cut : E → E → List Event → Type 0) where
-  -- rows were emitted, and then those behind them halted
+  -- rows were emitted, and then those after them halted
   pub halts_join : {A B C : Type 0} (halt : Halt) (sa : A → List (List Shown)) (sb : B → List (List Shown)) (all : C → List (List Shown)) (from mid : ℕ) (a b c : E)
       → IsEmitted grew [] sa from mid a b → HaltsAs grew cut halt sb b c
       → ((x : C) → (y : A) × (z : B) × (behind : List (List Shown)) × ((sa y ++ sb z) ++ behind ≡ all x)) → HaltsAs grew cut halt all a c
@@ -100,7 +100,7 @@ module _ {E : Type 0} (grew cut : E → E → List Event → Type 0) where
         append_assoc head (row_events (sa t.0)) (row_events (sb t.1) ++ row_events t.2) ∙ ap (λ (l : List Event). head ++ l) (events_more (sa t.0) (sb t.1) t.2 (all x) t.3),
       ))
 
-  -- rows were emitted behind a header, and then a pass over those behind them gave up
+  -- rows were emitted after a header, and then a pass over those after them gave up
   pub ends_after : {A B C : Type 0} (e : OpErr) (head : List Event) (sa : A → List (List Shown)) (sb : B → List (List Shown)) (all : C → List (List Shown)) (from mid : ℕ) (a b c : E)
       → IsEmitted grew head sa from mid a b → EndsAs grew cut e [] sb b c
       → ((x : C) → (y : A) × (z : B) × (behind : List (List Shown)) × ((sa y ++ sb z) ++ behind ≡ all x)) → EndsAs grew cut e head all a c
@@ -126,7 +126,7 @@ module _ {E : Type 0} (grew cut : E → E → List Event → Type 0) where
       go Sink is = halted is
       go NoMemory is = halted is
 
-  -- behind its header
+  -- after its header
   pub ends_under : {A : Type 0} (e : OpErr) (head : List Event) (shown : A → List (List Shown)) (a b c : E) → Leads grew grew a b head → EndsAs grew cut e [] shown b c → EndsAs grew cut e head shown a c
   ends_under Failed head shown a b c leads is = begun_under grew head shown a b c leads is
   ends_under (Tampered q p) head shown a b c leads is = begun_under grew head shown a b c leads is

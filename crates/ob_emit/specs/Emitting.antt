@@ -86,7 +86,7 @@ HaltsAs grew cut Halts.Malformed shown out_old out_new = IsBegun grew [] shown o
 HaltsAs grew cut (Halts.Emit e) shown out_old out_new =
     IsHalted grew cut (λ s. row_events (shown s)) out_old out_new
 
--- the same of a pass, behind its header
+-- the same of a pass, after its header
 abbrev pub EndsAs : {E Source : Type 0} → (grew cut : E → E → List Event → Type 0) → OpErr
     → (head : List Event) → (Source → List (List Shown)) → (out_old out_new : E) → Type 0
 EndsAs grew cut Failed head shown out_old out_new = IsBegun grew head shown out_old out_new
@@ -170,7 +170,7 @@ pub record HasEmitted (pack : ℕ) (flat : Flat) (cols : List ℕ) (done k : ℕ
   pub count : k ≡ length shown
   pub told : (s : SlotsToEnd pack flat w w) → shown ≡ blocks_shown pack flat cols done s.slots
 
--- each block of a table was read, in order, and its rows emitted behind this header
+-- each block of a table was read, in order, and its rows emitted after this header
 pub record Emits {E : Type 0} (grew cut : E → E → List Event → Type 0) (faults : E → ℕ)
     (pack : ℕ) (flat : Flat) (cols : List ℕ) (head : List Event)
     (result : Result ℕ OpErr) (old new : World) (out_old out_new : E) : Type 0 where

@@ -13,7 +13,7 @@ use crate::emitting::emit_blocks;
 use crate::head::emit_head;
 use ob_base::{Emit, EmitErr};
 use ob_flat::{Flat, OpErr};
-use ob_room::{ClearRow, Room};
+use ob_room::{ClearRow, RowBuffer};
 use ob_store::BlockStore;
 use ob_vault::{Revisions, Vault};
 
@@ -58,7 +58,7 @@ fn emit_table<S: BlockStore, R: Revisions, E: Emit>(
 pub fn emit_all<S: BlockStore, R: Revisions, E: Emit>(
     store: &mut S,
     vault: &mut Vault<R>,
-    room: &mut Room,
+    room: &mut RowBuffer,
     flat: &Flat,
     cols: &[u8],
     out: &mut E,

@@ -39,7 +39,7 @@ fn push_bytes(text: &mut ArrayVec<u8, 65>, bytes: &[u8])
     text.try_extend_from_slice(bytes).unwrap();
 }
 
-// The label of a column: its name, in a join behind its table's and a point.
+// The label of a column: its name, in a join after its table's and a point.
 fn label_of(joined: bool, column: &Column) -> Label
     ensures { result ≡ column_label joined column.now }
 {

@@ -10,7 +10,7 @@ ghost use Rattle.ob_flat.specs.Scans.{MayScan};
 ghost use Rattle.ob_emit.specs.Emitting.{WalksBlock, Walks};
 
 use ob_flat::{Flat, OpErr, Visit, scan_block, scan_blocks};
-use ob_room::{ClearRow, Room};
+use ob_room::{ClearRow, RowBuffer};
 use ob_row::{Malformed, read};
 use ob_store::BlockStore;
 use ob_vault::{Revisions, Vault};
@@ -79,7 +79,7 @@ fn walk_blocks<S: BlockStore, R: Revisions>(
 pub fn walk<S: BlockStore, R: Revisions>(
     store: &mut S,
     vault: &mut Vault<R>,
-    room: &mut Room,
+    room: &mut RowBuffer,
     flat: &Flat,
 ) -> Result<(), OpErr>
     requires spare { HasSpare (blocks_of room.old.pack flat.now)

@@ -8,7 +8,7 @@ use Rattle.ob_tables.specs.declared.stop.RunStop.TheVariants.{NoMemory, StoreFau
 use Rattle.ob_exec.proofs.EmittedRuns.{reads_before}
 use Rattle.ob_exec.proofs.FollowedRuns.{carried_then}
 use Rattle.ob_exec.proofs.Shares.{share_batch}
-use Rattle.ob_exec.specs.Behind.{IsBegun, SavesBehind}
+use Rattle.ob_exec.specs.Commits.{IsBegun, CommitsIfDue}
 use Rattle.ob_exec.specs.Ran.{ShowsNothing}
 use Rattle.ob_exec.specs.RanBatch.{RanBatch}
 use Rattle.ob_exec.specs.declared.saving.Begun.{Begun}
@@ -48,7 +48,7 @@ module _ {R : Type 0} (state : R → RevState) (first : Stmt) (rest : List Stmt)
         }))
 
     answered_then : (answer : Result Outcome RunStop) (due : Bool) → is_due begun.saved answer mid.seen.end ≡ due → ServesBatch state first rest answer outcomes old s mid s1
-        → SavesBehind state due begun answer result mid s1 new t k0 k1 → HasAnswered result new t
+        → CommitsIfDue state due begun answer result mid s1 new t k0 k1 → HasAnswered result new t
     answered_then answer false not serves stays =
         subst (λ (r : Result Outcome RunStop). HasAnswered r new t) (sym stays.answer_is)
         (subst (λ (e : Engine R). HasAnswered answer e t) (sym stays.engine_is)
@@ -59,7 +59,7 @@ module _ {R : Type 0} (state : R → RevState) (first : Stmt) (rest : List Stmt)
 
     pub batch_then : Agrees state old s → replaced_of old ≡ None → IsBegun old.public s first begun
         → AreBatch old.public (count_of old s) first rest → (Saves : Type 0) → MaySave Saves old → (answer : Result Outcome RunStop) → ServesBatch state first rest answer outcomes old s mid s1
-        → SavesBehind state (is_due begun.saved answer mid.seen.end) begun answer result mid s1 new t k0 k1 → RanBatch state first rest result outcomes old s new t k0 k1
+        → CommitsIfDue state (is_due begun.saved answer mid.seen.end) begun answer result mid s1 new t k0 k1 → RanBatch state first rest result outcomes old s new t k0 k1
     batch_then agrees settled as_begun batch Saves may answer serves behind =
         let answered = answered_then answer (is_due begun.saved answer mid.seen.end) refl serves behind in
         record {

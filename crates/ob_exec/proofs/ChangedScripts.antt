@@ -1,5 +1,5 @@
 -- The accesses of a statement that changes tables, where they are saved.
-use Rattle.ob_exec.proofs.Words.{Access, AfterCount, allowed, ap, Bool, changes_tables, ChangesFlat, Create, Cut, Delete, early_refusal, End, false, has_table, Heading, headings_of, Insert, is_saved, is_there, Joined, left_by, length, limits_of, List, None, Option, Public, refl, run_script, Seen, Skeleton, skeleton, Some, Static, Stmt, Stored, stored_at, sym, true, until_end, Update, Whole, whole_script, ℕ, [], ◌&&◌, ◌++◌, ◌+◌, ◌||◌, ◌∙◌, ◌∷◌, ◌≡◌}
+use Rattle.ob_exec.proofs.Words.{Access, AfterCount, allowed, ap, Bool, changes_tables, ChangesFlat, Create, Cut, Delete, early_refusal, End, false, has_table, Heading, headings_of, Insert, is_saved, is_there, Batched, left_by, length, limits_of, List, None, Option, Public, refl, run_script, Seen, Skeleton, skeleton, Some, Static, Stmt, Stored, stored_at, sym, true, until_end, Update, Whole, whole_script, ℕ, [], ◌&&◌, ◌++◌, ◌+◌, ◌||◌, ◌∙◌, ◌∷◌, ◌≡◌}
 use Rattle.std.proofs.Common.{cond}
 use Rattle.std.specs.Prelude.{bytes_eq}
 use Rattle.ob_base.specs.declared.schema.Table.{Table}
@@ -12,7 +12,7 @@ use Rattle.ob_mean.specs.Lawful.{selects_rows}
 use Rattle.ob_script.proofs.SavedParts.{run_makes, script_saved}
 use Rattle.ob_script.specs.Parts.{closing_part, insert_part, rewrite_part}
 use Rattle.ob_script.specs.Saved.{HasFlat, behind_run, run_next, whole_run}
-use Rattle.ob_script.specs.Script.{Behind, behind_change, closing_behind, mutation_script, save_part, shape_script, whole_by, with_table}
+use Rattle.ob_script.specs.Script.{FollowUp, behind_change, closing_behind, mutation_script, save_part, shape_script, whole_by, with_table}
 use Rattle.ob_script.specs.Tables.{tables_after, tables_then}
 use Rattle.ob_sql.specs.declared.stmt.Stmt.TheVariants.{Drop as DropTable, SelectRows as RowsStmt, SelectTotals as TotalsStmt}
 use Rattle.ob_exec.specs.Ran.{is_whole}
@@ -39,7 +39,7 @@ changes_plain (RowsStmt q) changes = absurd (cc changes)
 changes_plain other changes = refl
 
 -- ---- the table that it changes
--- the first of a name, behind one that has it or hasn't
+-- the first of a name, after one that has it or hasn't
 abbrev found : (name : List ℕ) (t : Table) (ts : List Table) → Bool → Option (Stored ℕ)
 found name t ts b = cond b (Some (stored_region t)) (stored_at name (stored_regions ts))
 
@@ -75,8 +75,8 @@ module _ (p : Public) (flat : AreFlat (headings_of p.tables)) where
     changes_flat (TotalsStmt q) changes now = absurd (cc changes)
 
 -- ---- its accesses
--- nothing but its leaf shows in them
-whole_same : (behind : Behind) (p : Public) (s : Skeleton) (a b : Seen) → changes_tables s ≡ true → a.leaf ≡ b.leaf → whole_by behind p s a ≡ whole_by behind p s b
+-- nothing except its leaf shows in them
+whole_same : (behind : FollowUp) (p : Public) (s : Skeleton) (a b : Seen) → changes_tables s ≡ true → a.leaf ≡ b.leaf → whole_by behind p s a ≡ whole_by behind p s b
 whole_same behind p (K.Create table cs n shape) a b changes leaf = refl
 whole_same behind p (K.Insert table cs) a b changes leaf = ap (λ (l : Option ℕ). with_table table p (shape_script p l (mutation_script p insert_part behind))) leaf
 whole_same behind p (K.Update table cs) a b changes leaf = ap (λ (l : Option ℕ). with_table table p (shape_script p l (mutation_script p rewrite_part behind))) leaf

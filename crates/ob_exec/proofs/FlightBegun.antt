@@ -1,8 +1,8 @@
 -- The first changed block that a flight reads is one that its statements read by their meaning.
-use Rattle.ob_exec.proofs.Words.{Access, accesses_in, AfterCount, AllMay, AllMayFly, ap, append_assoc, AreSteady, Bool, Closed, Cut, cut_at, Draws, drop, End, false, first_of_merge, in_flight, Index, inl, inr, Joined, Kind, length, length-map, Lie, List, map, merge, Moment, Public, ReadsIn, refl, Seen, Served, setting_off, skeleton, slice_get, Some, Static, Stmt, subst, sym, Tables, take, true, turns, Whole, ℕ, ◌++◌, ◌+◌, ◌∙◌, ◌∷◌, ◌≡◌}
+use Rattle.ob_exec.proofs.Words.{Access, accesses_in, AfterCount, AllMay, AllMayFly, ap, append_assoc, AreSteady, Bool, Closed, Cut, cut_at, Draws, drop, End, false, first_of_merge, in_flight, Index, inl, inr, Batched, Kind, length, length-map, FalseRead, List, map, merge, Moment, Public, ReadsIn, refl, Seen, Served, setting_off, skeleton, slice_get, Some, Static, Stmt, subst, sym, Tables, take, true, turns, Whole, ℕ, ◌++◌, ◌+◌, ◌∙◌, ◌∷◌, ◌≡◌}
 use Rattle.std.proofs.lemmas.List.{take-append-drop}
 use Rattle.ob_base.specs.declared.access.Access.TheVariants.{Read}
-use Rattle.ob_inflight.specs.Aloft.{HasStood}
+use Rattle.ob_inflight.specs.AfterTurns.{HasStood}
 use Rattle.ob_mean.specs.Verdict.{seen as seen_by}
 use Rattle.ob_script.specs.FlightLaws.{MayFly}
 use Rattle.ob_script.specs.Flights.{Flight}
@@ -13,7 +13,7 @@ use Rattle.ob_exec.proofs.FlightStage.{HoldNow, IsStage, shown_of}
 use Rattle.ob_exec.proofs.FlightRuns.{Boards, as_many, may_fly, sets_now, they_hold, they_serve}
 
 -- what is read within the first of some accesses is read within all
-reads_first : (lie : Lie) (asked all : List Access) (n : ℕ) → ReadsIn lie (asked ++ take n all) → ReadsIn lie (asked ++ all)
+reads_first : (lie : FalseRead) (asked all : List Access) (n : ℕ) → ReadsIn lie (asked ++ take n all) → ReadsIn lie (asked ++ all)
 reads_first lie asked all n reads = record {
   rest = reads.rest ++ drop n all;
   is = sym (append_assoc lie.before (Read lie.region lie.place ∷ reads.rest) (drop n all))
@@ -64,7 +64,7 @@ module _ {F : Type 0} (k : Kind F) (m : ℕ) (stage : IsStage k m) (steady_of : 
         (may_fly k m stage steady_of p stmts words share start boards turn q h.ended h.current h.last h.aloft i one.0 (meant_served one.0) one.1 (may_mean i one.0 one.1));
   }
 
-  reads : (lie : Lie) → ((xs : List Served) → AllMay k.May h.last.flyers xs → ReadsIn lie (start.world.store.asked ++ accesses_in (turns words (turn + 1) (setting_off q start.world.vault.next xs)).log))
+  reads : (lie : FalseRead) → ((xs : List Served) → AllMay k.May h.last.flyers xs → ReadsIn lie (start.world.store.asked ++ accesses_in (turns words (turn + 1) (setting_off q start.world.vault.next xs)).log))
       → ReadsIn lie (start.world.store.asked ++ merge p (map (λ (f : F). record { skeleton = skeleton (k.progress f).stmt; seen = shown_of (k.progress f).failed d m tables (k.progress f) }) h.last.flyers) words)
   reads lie given =
       let flown = map meant_served h.last.flyers in
@@ -88,7 +88,7 @@ module _ {F : Type 0} (k : Kind F) (m : ℕ) (stage : IsStage k m) (steady_of : 
       (inr (ap (λ (x : Bool). shown_of x d m tables (k.progress f)) is
       ∙ (λ j. cut_at true (k.progress f).asked (public j) (skeleton (serves j)) (seen_by d (public j) m tables (serves j)))))
 
-  pub begins_meant : (lie : Lie) → ((xs : List Served) → AllMay k.May h.last.flyers xs → ReadsIn lie (start.world.store.asked ++ accesses_in (turns words (turn + 1) (setting_off q start.world.vault.next xs)).log))
+  pub begins_meant : (lie : FalseRead) → ((xs : List Served) → AllMay k.May h.last.flyers xs → ReadsIn lie (start.world.store.asked ++ accesses_in (turns words (turn + 1) (setting_off q start.world.vault.next xs)).log))
       → (asked : List Access) → start.world.store.asked ≡ asked
       → BeginsMeant p m d tables stmts (map (λ (f : F). (k.progress f).served.seen) now.flyers) words asked lie
   begins_meant lie given asked is = record {

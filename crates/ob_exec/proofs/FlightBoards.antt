@@ -7,7 +7,7 @@ use Rattle.ob_base.specs.declared.skeleton.Skeleton.TheVariants.{Rows as RowsSke
 use Rattle.ob_flat.specs.declared.flat.Flat.{Flat}
 use Rattle.ob_flat.specs.Scans.{MayScan}
 use Rattle.ob_flat.proofs.Tables.{fits_sized, written_flat}
-use Rattle.ob_inflight.specs.Aloft.{AreBoarded, booked_by, most_of}
+use Rattle.ob_inflight.specs.AfterTurns.{AreBoarded, booked_by, most_of}
 use Rattle.ob_inflight.specs.Closing.{outcome_at}
 use Rattle.ob_inflight.specs.Kinds.{moment, share_at}
 use Rattle.ob_inflight.proofs.Lists.{total_few}

@@ -1,9 +1,9 @@
 -- What had ended within a flight's first accesses is as it is meant, whatever is read later.
-use Rattle.ob_exec.proofs.Words.{Access, accesses_in, Agrees, AllMay, AllMayFly, ap, AreSteady, arith, boarding, Bool, cases_lt, ChangesNothing, Closed, count_of, Draws, EndedWithin, Engine, false, first_of_merge, Flying, flying_of, in_flight, inl, inr, is_cut, is_fault, is_some, IsMeant, IsTrue, Kind, length, length-append, length-map, Lie, List, map, merge, Moment, None, none_before, Option, option_map_or, Progress, Public, ReadsTrue, refl, RevState, Seen, Served, setting_off, skeleton, slice_get, Some, Stmt, StoreState, subst, suc, sym, Tables, take, true, turns, world_of, zero, ℕ, [], ◌++◌, ◌+◌, ◌<◌, ◌∙◌, ◌∷◌, ◌≡◌, ◌≤◌}
+use Rattle.ob_exec.proofs.Words.{Access, accesses_in, Agrees, AllMay, AllMayFly, ap, AreSteady, arith, boarding, Bool, cases_lt, ChangesNothing, Closed, count_of, Draws, EndedWithin, Engine, false, first_of_merge, Flying, flying_of, in_flight, inl, inr, is_cut, is_fault, is_some, IsMeant, IsTrue, Kind, length, length-append, length-map, FalseRead, List, map, merge, Moment, None, none_before, Option, option_map_or, Progress, Public, ReadsTrue, refl, RevState, Seen, Served, setting_off, skeleton, slice_get, Some, Stmt, StoreState, subst, suc, sym, Tables, take, true, turns, world_of, zero, ℕ, [], ◌++◌, ◌+◌, ◌<◌, ◌∙◌, ◌∷◌, ◌≡◌, ◌≤◌}
 use Rattle.std.specs.Prelude.{option_map}
 use Rattle.std.proofs.lemmas.Option.{same_Some}
 use Rattle.ob_base.specs.declared.access.Access.TheVariants.{Read}
-use Rattle.ob_inflight.specs.Aloft.{BeginsIn, HasStood, HaveStood, IsBegun, flight_in, flying_in, HasGoneOn, HaveGoneOn}
+use Rattle.ob_inflight.specs.AfterTurns.{BeginsIn, HasStood, HaveStood, IsBegun, flight_in, flying_in, HasGoneOn, HaveGoneOn}
 use Rattle.ob_inflight.specs.Closing.{RisesBy, outcome_at}
 use Rattle.ob_inflight.proofs.Stopping.{keeps_still}
 use Rattle.ob_script.specs.FlightLaws.{one_if}
@@ -84,7 +84,7 @@ module _ {R F : Type 0} (state : R → RevState) (k : Kind F) (old : Engine R) (
   abbrev flight_at : ℕ → Flight
   flight_at n = turns words n (boarding old.public (map (λ (f : F). (k.progress f).served) now.flyers))
 
-  -- ---- behind fewer turns
+  -- ---- after fewer turns
   module _ (n : ℕ) (h : HasStood k words q share n ended_now (record { flyers = flyers; kept = shares; world = world_of state old s1 }) now) where
     may_then : AllMay k.May h.last.flyers (map (λ (f : F). (k.progress f).served) now.flyers)
     may_then = h.keeps.may (map (λ (f : F). (k.progress f).served) now.flyers) all
@@ -116,7 +116,7 @@ module _ {R F : Type 0} (state : R → RevState) (k : Kind F) (old : Engine R) (
         sym (ap (λ (o : Option Flying). option_map_or (λ (g : Flying). g.ended) o false) get) ∙ is
 
   -- where the first changed block was read, by a later turn than that
-  lie_behind : (lie : Lie) → (b : BeginsIn k words q share lie ended_now (record { flyers = flyers; kept = shares; world = world_of state old s1 }) now)
+  lie_behind : (lie : FalseRead) → (b : BeginsIn k words q share lie ended_now (record { flyers = flyers; kept = shares; world = world_of state old s1 }) now)
       → length lie.before < length s.asked + length (turns words (b.turn + 1) (boarding old.public (map (λ (f : F). (k.progress f).served) now.flyers))).log
   lie_behind lie b =
       let reads = b.reads by_now (may_then b.turn b.stood) in
@@ -128,21 +128,21 @@ module _ {R F : Type 0} (state : R → RevState) (k : Kind F) (old : Engine R) (
       let first = ap length rests.asked in
       omega (arith, whole, one, many, same, first)
 
-  -- so many turns, within which no changed block was read that was read behind so many accesses
+  -- so many turns, within which no changed block was read that was read after so many accesses
   record Unread (n few : ℕ) : Type 0 where
     stood : HasStood k words q share n ended_now (record { flyers = flyers; kept = shares; world = world_of state old s1 }) now
-    unread : s.lie ≡ None → (lie : Lie) → now.world.store.lie ≡ Some lie → length s.asked + few ≤ length lie.before → stood.last.world.store.lie ≡ None
+    unread : s.lie ≡ None → (lie : FalseRead) → now.world.store.lie ≡ Some lie → length s.asked + few ≤ length lie.before → stood.last.world.store.lie ≡ None
 
   unread_by : (n few : ℕ) → n ≤ turn → length (turns words n (boarding old.public (map (λ (f : F). (k.progress f).served) now.flyers))).log ≤ few → Unread n few
   unread_by n few le within = go now.world.store.lie refl s.lie refl
     where
-      go : (o : Option Lie) → now.world.store.lie ≡ o → (u : Option Lie) → s.lie ≡ u → Unread n few
+      go : (o : Option FalseRead) → now.world.store.lie ≡ o → (u : Option FalseRead) → s.lie ≡ u → Unread n few
       go None is u was = record { stood = past n le; unread = λ none lie told some. absurd (cc (is, told)) }
       go (Some lie) is (Some other) was = record { stood = past n le; unread = λ none lie told some. absurd (cc (none, was)) }
       go (Some lie) is None was = elim (cases_lt (length lie.before) (length s.asked + few)) [
         | inl less ↦ record {
           stood = past n le;
-          unread = λ none other told some. absurd (let same : other ≡ lie = cc (told, is) in let e = ap (λ (l : Lie). length l.before) same in omega (arith, e, some, less));
+          unread = λ none other told some. absurd (let same : other ≡ lie = cc (told, is) in let e = ap (λ (l : FalseRead). length l.before) same in omega (arith, e, some, less));
         }
         | inr some ↦
             let b = begun (rests.lie ∙ was) lie is in

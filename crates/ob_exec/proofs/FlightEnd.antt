@@ -1,7 +1,7 @@
 -- A flight that nothing stopped.
 use Rattle.ob_exec.proofs.Words.{Access, accesses_in, Agrees, AllMayFly, ap, AreSteady, arith, asked_by, asked_since, at, Bool, ChangesNothing, count_of, Draws, drop, EndedWithin, Engine, engine_behind, Event, false, in_flight, is_some, IsFree, IsMeant, Kind, Lasts, length, length-append, length-map, List, map, merge, Moment, None, Ok, Option, Outcome, Public, RanFlight, ReadsTrueUntil, refl, RevState, RoomState, Seen, Served, slice_get, Some, Stmt, StoreState, subst, sym, Tables, taker_of, true, unfit_none, Vault, world_of, ℕ, [], ◌++◌, ◌+◌, ◌∙◌, ◌≡◌, ◌≤◌}
 use Rattle.ob_inflight.specs.Closing.{RisesBy}
-use Rattle.ob_inflight.specs.Flown.{HasFlown}
+use Rattle.ob_inflight.specs.FlightOutcome.{HasFlown}
 use Rattle.ob_script.specs.Flights.{Flight, next_flight, own, turns_of, own_asked}
 use Rattle.ob_vault.specs.declared.region.Region.{Region}
 use Rattle.ob_exec.specs.InFlight.{IsFlown, served_as}

@@ -2,7 +2,7 @@
 use Rattle.ob_exec.proofs.Words.{Agrees, ap, arith, at, ChangesNothing, count_of, Engine, engine_behind, Err, Event, false, flight_kind, flight_progress, halt_of, IfErr, is_late, IsFree, length, List, map, Ok, OnOk, OpErr, Outcome, RanFlight, Result, RevState, RoomState, SinkCause, Stmt, StoreState, taker_of, true, Vault, world_of, ℕ, ◌+◌, ◌≡◌, ◌≤◌}
 use Rattle.std.proofs.Common.{max}
 use Rattle.std.specs.Result.{is_err}
-use Rattle.ob_inflight.specs.Flown.{HasFlown, StopsFlight}
+use Rattle.ob_inflight.specs.FlightOutcome.{HasFlown, StopsFlight}
 use Rattle.ob_inflight.specs.Kinds.{moment}
 use Rattle.ob_script.proofs.Steady.{all_steady}
 use Rattle.ob_select.proofs.RoomLemmas.{free_after}

@@ -1,5 +1,5 @@
--- The engine behind a flight: its tables are as they were.
-use Rattle.ob_exec.proofs.Words.{Access, Agrees, ap, AreDraws, AreHeld, arith, at, Bool, Calm, ChangesNothing, Draws, Engine, engine_behind, IsFree, KeySet, Lasts, later_rests, List, None, Opens, others_of, refl, region_below, RevState, RoomState, Seals, seals_join, seals_rests, StoreState, subst, sym, Tables, Vault, went_rests, World, world_of, ℕ, ◌∙◌, ◌≡◌, ◌≤◌}
+-- The engine after a flight: its tables are as they were.
+use Rattle.ob_exec.proofs.Words.{Access, Agrees, ap, AreDraws, AreHeld, arith, at, Bool, Untampered, ChangesNothing, Draws, Engine, engine_behind, IsFree, KeySet, Lasts, later_rests, List, None, Opens, others_of, refl, region_below, RevState, RoomState, Seals, seals_join, seals_rests, StoreState, subst, sym, Tables, Vault, went_rests, World, world_of, ℕ, ◌∙◌, ◌≡◌, ◌≤◌}
 use Rattle.ob_seal.specs.Draws.{draw_of}
 use Rattle.ob_select.specs.Selecting.{AcceptsRows}
 use Rattle.ob_tables.specs.Engines.{AreTables}
@@ -33,10 +33,10 @@ module _ {R : Type 0} (state : R → RevState) (old : Engine R) (s s1 : StoreSta
       nolie = nolie;
     }
 
-  pub calm_start : Calm (world_of state old s) → Calm (world_of state old s1)
+  pub calm_start : Untampered (world_of state old s) → Untampered (world_of state old s1)
   calm_start = (went_rests _ s s1 rests (λ q. old.vault.next ≤ q) agrees.ready).calm
 
-  -- ---- behind it
+  -- ---- after it
   module _ (v : Vault R) (room : RoomState) (t : StoreState) (free : IsFree old.public room) (since : Lasts (λ q. old.vault.next ≤ q) (world_of state old s1) (at state v t)) where
     abbrev lasts : Lasts (λ q. old.vault.next ≤ q) (world_of state old s) (at state v t)
     lasts = lasts_all (at state v t) since

@@ -1,5 +1,5 @@
 -- What was emitted until a flight was stopped, and where it wanted memory.
-use Rattle.ob_exec.proofs.Words.{Access, accesses_in, Agrees, AllMayFly, answer_labels, ap, append_assoc, AreSteady, arith, asked_by, asked_since, at, Calm, ChangesNothing, Closed, count_of, done_of, drop, EmitErr, Emits, Emitted, EndedWithin, Engine, engine_behind, Err, Event, events_at, false, halt_of, HasHalted, in_flight, inl, inr, is_refused, IsFree, IsMeant, IsTrue, Kind, Lasts, length, length-map, List, map, Moment, None, none_before, OpErr, Option, Outcome, Partly, Progress, Public, RanFlight, ReadsTrue, ReadsTrueUntil, refl, RevState, RoomState, script, Seen, Served, SinkCause, Skeleton, skeleton, slice_get, Some, Stmt, StoreState, subst, sym, Tables, taker_of, true, Vault, verdict, whole_script, World, world_of, ℕ, [], ◌++◌, ◌+◌, ◌∙◌, ◌∷◌, ◌≡◌, ◌≤◌, ◌⊎◌}
+use Rattle.ob_exec.proofs.Words.{Access, accesses_in, Agrees, AllMayFly, answer_labels, ap, append_assoc, AreSteady, arith, asked_by, asked_since, at, Untampered, ChangesNothing, Closed, count_of, done_of, drop, EmitErr, Emits, Emitted, EndedWithin, Engine, engine_behind, Err, Event, events_at, false, halt_of, HasHalted, in_flight, inl, inr, is_refused, IsFree, IsMeant, IsTrue, Kind, Lasts, length, length-map, List, map, Moment, None, none_before, OpErr, Option, Outcome, Partly, Progress, Public, RanFlight, ReadsTrue, ReadsTrueUntil, refl, RevState, RoomState, script, Seen, Served, SinkCause, Skeleton, skeleton, slice_get, Some, Stmt, StoreState, subst, sym, Tables, taker_of, true, Vault, verdict, whole_script, World, world_of, ℕ, [], ◌++◌, ◌+◌, ◌∙◌, ◌∷◌, ◌≡◌, ◌≤◌, ◌⊎◌}
 use Rattle.std.specs.Prelude.{option_map}
 use Rattle.std.proofs.lemmas.Option.{slice_get_within}
 use Rattle.ob_base.specs.declared.emit.EmitErr.TheVariants as EmitErrs
@@ -7,8 +7,8 @@ use Rattle.ob_flat.specs.Flats.{Accepts}
 use Rattle.ob_flat.specs.declared.fault.OpErr.TheVariants as OpErrs
 use Rattle.ob_inflight.specs.Answers.{EndsBy, error_of}
 use Rattle.ob_inflight.specs.Closing.{RisesBy, outcome_at}
-use Rattle.ob_inflight.specs.Flown as Flown
-use Rattle.ob_inflight.specs.Flown.{StopsInClosing, StopsInFinish, StopsInStep}
+use Rattle.ob_inflight.specs.FlightOutcome as FlightOutcome
+use Rattle.ob_inflight.specs.FlightOutcome.{StopsInClosing, StopsInFinish, StopsInStep}
 use Rattle.ob_inflight.specs.Kinds.{moment, share_at}
 use Rattle.ob_inflight.specs.Progress.{KeepsCourse}
 use Rattle.ob_select.specs.Memory.{AtEmission, AtMake, AtResult, ends_with_make}
@@ -31,7 +31,7 @@ module _ {R E F : Type 0} (state : R → RevState) (grew cut : E → E → List 
     (v : Vault R) (room : RoomState) (t : StoreState) (free : IsFree old.public room)
     (boards : Boards k (count_of old s) old.public stmts (record { flyers = flyers; kept = shares; world = world_of state old s1 }))
     (out_old out_new : E)
-    (st : Flown.StopsFlight k (taker_of grew cut closed parted) words share e (record { flyers = flyers; kept = shares; world = world_of state old s1 }) (record { flyers = fs; kept = kept; world = at state v t }) out_old out_new) where
+    (st : FlightOutcome.StopsFlight k (taker_of grew cut closed parted) words share e (record { flyers = flyers; kept = shares; world = world_of state old s1 }) (record { flyers = fs; kept = kept; world = at state v t }) out_old out_new) where
   abbrev m : ℕ
   m = count_of old s
 
@@ -428,7 +428,7 @@ module _ {R E F : Type 0} (state : R → RevState) (grew cut : E → E → List 
 
   caused : (T : Type 0) → FlightCause {T = T} (Err (halt_of e)) (world_of state old s) (world_of state new t)
   caused T =
-      let calm : Calm (world_of state old s) → Calm st.last.world = λ was. st.aloft.rest.calm (calm_start state old s s1 agrees rests was) in
+      let calm : Untampered (world_of state old s) → Untampered st.last.world = λ was. st.aloft.rest.calm (calm_start state old s s1 agrees rests was) in
       elim st.by [
         | inl step ↦ cause_behind T e (world_of state old s) st.last.world (at state v t) step.stops.never calm step.stops.cut.cause
         | inr (inl fin) ↦
@@ -456,7 +456,7 @@ module _ {R E F : Type 0} (state : R → RevState) (grew cut : E → E → List 
     goes_on = refl;
   }
 
-  -- as they were before the act that gave up, in the world behind it
+  -- as they were before the act that gave up, in the world after it
   abbrev behind : Moment F
   behind = moment st.last.flyers st.last.kept (at state v t)
 

@@ -3,7 +3,7 @@ use Rattle.ob_exec.proofs.Words.{AllMay, ap, AreSteady, arith, boarding, cases_l
 use Rattle.std.specs.Prelude.{option_map, slice_set}
 use Rattle.std.proofs.lemmas.List.{take_all, take_at}
 use Rattle.std.proofs.lemmas.Option.{same_Some, slice_get-map}
-use Rattle.ob_inflight.specs.Aloft.{acts_of, failed_of, flying_in}
+use Rattle.ob_inflight.specs.AfterTurns.{acts_of, failed_of, flying_in}
 use Rattle.ob_inflight.specs.Closing.{outcome_at}
 use Rattle.ob_script.specs.FlightLaws as L
 use Rattle.ob_script.specs.Flights.{Flight, boarded, flight, turns_of}
@@ -43,7 +43,7 @@ get_mapped v xs i y at = from_map v (slice_get xs i) y (sym (slice_get-map v xs 
 pub map_get : {A B : Type 0} (v : A → B) (xs : List A) (i : ℕ) (x : A) → slice_get xs i ≡ Some x → slice_get (map v xs) i ≡ Some (v x)
 map_get v xs i x at = slice_get-map v xs i ∙ ap (option_map v) at
 
--- one more is behind those that there were
+-- one more is after those that there were
 pub get_more : {A : Type 0} (xs : List A) (y : A) (i : ℕ) (z : A) → slice_get (xs ++ y ∷ []) i ≡ Some z → (slice_get xs i ≡ Some z) ⊎ ((i ≡ length xs) × (y ≡ z))
 get_more [] y zero z at = inr (refl, same_Some y z at)
 get_more [] y (suc i) z at = absurd (cc at)
@@ -149,19 +149,19 @@ pub outcome_next : (ended : List Closed) → outcome_at ended (length ended) ≡
 outcome_next [] = refl
 outcome_next (one ∷ ended) = outcome_next ended
 
--- one that has not ended stands behind those that have
+-- one that has not ended stands after those that have
 pub past_ended : (ended : List Closed) (i : ℕ) → outcome_at ended i ≡ None → length ended ≤ i
 past_ended [] i none = omega arith
 past_ended (one ∷ ended) zero none = absurd (cc none)
 past_ended (one ∷ ended) (suc i) none = let e = past_ended ended i none in omega (arith, e)
 
--- nothing stands behind a list's end
+-- nothing stands after a list's end
 pub past_none : {A : Type 0} (xs : List A) (i : ℕ) → slice_get xs i ≡ None → length xs ≤ i
 past_none [] i none = omega arith
 past_none (x ∷ xs) zero none = absurd (cc none)
 past_none (x ∷ xs) (suc i) none = let e = past_none xs i none in omega (arith, e)
 
--- and what stands behind them has not ended
+-- and what stands after them has not ended
 pub none_past : (ended : List Closed) (i : ℕ) → length ended ≤ i → slice_get ended i ≡ None
 none_past [] i past = refl
 none_past (one ∷ ended) zero past = absurd (omega (arith, past))

@@ -1,5 +1,5 @@
--- A statement that stopped in an access of its own, or behind one.
-use Rattle.ob_exec.proofs.Words.{Access, act_of, AfterCount, ap, AreHeld, arith, Bool, count_end, Create, Cut, cut_at, Delete, Draws, End, false, flight_public, held_empty, held_if, Index, Insert, is_access, Joined, Lawful, le-leb, length, List, nat_le, nat_lt, None, Option, Plan, Progress, Public, refl, refusal_now, same_script, script, Seen, Served, Skeleton, skeleton, Some, Static, Stmt, subst, sym, Tables, take, true, until_end, Update, walk_end, Whole, whole_script, World, ℕ, [], ◌+◌, ◌<◌, ◌∙◌, ◌∷◌, ◌≡◌, ◌≤◌}
+-- A statement that stopped in an access of its own, or after one.
+use Rattle.ob_exec.proofs.Words.{Access, act_of, AfterCount, ap, AreHeld, arith, Bool, count_end, Create, Cut, cut_at, Delete, Draws, End, false, flight_public, held_empty, held_if, Index, Insert, is_access, Batched, Lawful, le-leb, length, List, nat_le, nat_lt, None, Option, Plan, Progress, Public, refl, refusal_now, same_script, script, Seen, Served, Skeleton, skeleton, Some, Static, Stmt, subst, sym, Tables, take, true, until_end, Update, walk_end, Whole, whole_script, World, ℕ, [], ◌+◌, ◌<◌, ◌∙◌, ◌∷◌, ◌≡◌, ◌≤◌}
 use Rattle.std.specs.Prelude.{unwrap_or}
 use Rattle.std.proofs.lemmas.List.{length-take}
 use Rattle.std.proofs.lemmas.Option.{slice_get_within}
@@ -36,14 +36,14 @@ module _ (p : Public) (m : ℕ) (stmt : Stmt) (seen : Seen) (a : ℕ) where
     cut = subst (λ (x : List Access). a + 1 ≤ length x) (same_script p (skeleton stmt) seen (Cut (a + 1))) (omega (arith, within));
   }
 
-  -- behind a stop in its next access it stands as before it
+  -- after a stop in its next access it stands as before it
   pub stands_more : (end : End) → seen.end ≡ end → is_access p (skeleton stmt) ≡ false → seen.then ≡ None → a < length (script p (skeleton stmt) seen)
       → StandsAs p m a stmt seen end → StandsAs p m (a + 1) stmt seen end
   stands_more Static is flat single within stands = stands
   stands_more Whole is flat single within stands =
       lawful_more flat single (subst (λ (end : End). a < length (until_end end (whole_script p (skeleton stmt) seen))) is within) stands
   stands_more AfterCount is flat single within stands = absurd stands
-  stands_more Joined is flat single within stands = absurd stands
+  stands_more Batched is flat single within stands = absurd stands
   stands_more (Cut cut) is flat single within stands =
       let most : a < length (take cut (whole_script p (skeleton stmt) seen)) = subst (λ (end : End). a < length (until_end end (whole_script p (skeleton stmt) seen))) is within in
       let long = length-take cut (whole_script p (skeleton stmt) seen) in
@@ -56,7 +56,7 @@ module _ (p : Public) (m : ℕ) (stmt : Stmt) (seen : Seen) (a : ℕ) where
       absurd (let some : a < 0 = subst (λ (end : End). a < length (until_end end (whole_script p (skeleton stmt) seen))) is within in omega (arith, some))
   ends_whole Whole is within stands = is
   ends_whole AfterCount is within stands = absurd stands
-  ends_whole Joined is within stands = absurd stands
+  ends_whole Batched is within stands = absurd stands
   ends_whole (Cut cut) is within stands =
       let most : a < length (take cut (whole_script p (skeleton stmt) seen)) = subst (λ (end : End). a < length (until_end end (whole_script p (skeleton stmt) seen))) is within in
       let long = length-take cut (whole_script p (skeleton stmt) seen) in
@@ -80,7 +80,7 @@ held_same a b c o one two =
     let then_too : nat_le c b ≡ true = le-leb c b (omega (arith, one, two)) in
     ap (λ (x : Bool). held_if x o) (first ∙ sym then_too)
 
--- where its rows are counted, no more is held behind one access more
+-- where its rows are counted, no more is held after one access more
 pub held_more : (a : ℕ) (p : Public) (s : Skeleton) (meant : Seen) → count_end p s ≤ a → meant.then ≡ None → meant.leaf ≡ None
     → record (cut_at false a p s meant) { end = Whole } ≡ record (cut_at false (a + 1) p s meant) { end = Whole }
 held_more a p s meant counted single unread = λ j. record {

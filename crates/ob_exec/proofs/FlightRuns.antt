@@ -1,7 +1,7 @@
 -- What the turns of statements in flight come to: each stands as it should, and what was asked is what the words merge.
 use Rattle.ob_exec.proofs.Words.{Access, accesses_in, act_of, AllMay, AllMayFly, answer_labels, ap, AreNamed, AreSteady, arith, boarding, Closed, Draws, Emits, Emitted, Event, events_at, first_of_merge, flight_public, flying_of, in_flight, Index, is_access, is_some, IsAt, IsMeant, Kind, labels_of, length, length-map, List, map, merge, Moment, None, Option, Outcome, Partly, Progress, Public, refl, refusal_now, script, Seen, selection, SelectsFromOne, Served, setting_off, Skeleton, skeleton, slice_get, Some, Stmt, subst, suc, sym, Tables, take, true, turns, verdict, zero, ℕ, [], ◌<◌, ◌∙◌, ◌∷◌, ◌≡◌, ◌≤◌}
 use Rattle.std.specs.Prelude.{unwrap_or}
-use Rattle.ob_inflight.specs.Aloft.{IsAloft, flight_in}
+use Rattle.ob_inflight.specs.AfterTurns.{IsInFlight, flight_in}
 use Rattle.ob_inflight.specs.Closing.{outcome_at}
 use Rattle.ob_inflight.specs.Kinds.{share_at}
 use Rattle.ob_inflight.specs.Progress.{KeepsCourse}
@@ -58,7 +58,7 @@ some_ended (one ∷ ended) (suc i) within = some_ended ended i (omega (arith, wi
 
 module _ {F : Type 0} (k : Kind F) (m : ℕ) (stage : IsStage k m) (steady_of : (p : Public) (flown : List Served) → AllMayFly flown → AreSteady p flown)
     (p : Public) (stmts : List Stmt) (words : ℕ → ℕ) (share : ℕ) (start : Moment F) (boards : Boards k m p stmts start)
-    (n : ℕ) (q : Public) (ended : List Closed) (current : List Event) (now : Moment F) (aloft : IsAloft k words n q share ended current start now) where
+    (n : ℕ) (q : Public) (ended : List Closed) (current : List Event) (now : Moment F) (aloft : IsInFlight k words n q share ended current start now) where
   abbrev served : F → Served
   served f = (k.progress f).served
 

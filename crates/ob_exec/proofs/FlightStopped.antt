@@ -1,10 +1,10 @@
 -- A flight that was stopped.
-use Rattle.ob_exec.proofs.Words.{Access, act_of, Agrees, AllMayFly, ap, AreSteady, arith, asked_by, asked_since, at, Bool, Calm, ChangesNothing, Closed, count_end, count_of, Cut, cut_at, done_of, Draws, drop, EmitErr, End, Engine, engine_behind, Err, Event, events_at, false, flight_public, halt_of, in_flight, inl, inr, is_access, is_refused, IsFree, IsMeant, IsNotTampered, IsTrue, IsUnfit, Kind, Lawful, length, length-append, length-map, List, map, Moment, None, OpErr, Option, Outcome, Public, ReadsTrueUntil, refl, Refusal, refusal_now, RevState, RoomState, script, Seen, Served, SinkCause, SinkStops, skeleton, slice_get, Some, Stmt, StoreState, subst, sym, Tables, taker_of, true, unfit_none, Vault, Whole, World, world_of, ℕ, [], ◌++◌, ◌<◌, ◌∙◌, ◌∷◌, ◌≡◌, ◌≤◌, ◌⊎◌}
+use Rattle.ob_exec.proofs.Words.{Access, act_of, Agrees, AllMayFly, ap, AreSteady, arith, asked_by, asked_since, at, Bool, Untampered, ChangesNothing, Closed, count_end, count_of, Cut, cut_at, done_of, Draws, drop, EmitErr, End, Engine, engine_behind, Err, Event, events_at, false, flight_public, halt_of, in_flight, inl, inr, is_access, is_refused, IsFree, IsMeant, IsNotTampered, IsTrue, IsUnfit, Kind, Lawful, length, length-append, length-map, List, map, Moment, None, OpErr, Option, Outcome, Public, ReadsTrueUntil, refl, Refusal, refusal_now, RevState, RoomState, script, Seen, Served, SinkCause, SinkStops, skeleton, slice_get, Some, Stmt, StoreState, subst, sym, Tables, taker_of, true, unfit_none, Vault, Whole, World, world_of, ℕ, [], ◌++◌, ◌<◌, ◌∙◌, ◌∷◌, ◌≡◌, ◌≤◌, ◌⊎◌}
 use Rattle.ob_base.specs.declared.emit.EmitErr.TheVariants as EmitErrs
 use Rattle.ob_flat.specs.declared.fault.OpErr.TheVariants as OpErrs
 use Rattle.ob_flat.specs.Passes.{PassCause}
 use Rattle.ob_inflight.specs.Answers.{EndsBy, error_of}
-use Rattle.ob_inflight.specs.Flown as Flown
+use Rattle.ob_inflight.specs.FlightOutcome as FlightOutcome
 use Rattle.ob_inflight.specs.Kinds.{share_at}
 use Rattle.ob_mean.specs.Verdict.{seen as seen_by}
 use Rattle.ob_script.specs.Flights.{IsSteady}
@@ -48,15 +48,15 @@ sink_by T (OpErrs.Tampered q x) a b never cause = cause
 sink_by T OpErrs.Sink a b never cause = cause
 sink_by T OpErrs.NoMemory a b never cause = cause
 
--- an error's cause behind some turns
-pub cause_behind : (T : Type 0) (e : OpErr) (a b c : World) → (e ≡ OpErrs.Failed → ⊥) → (Calm a → Calm b) → PassCause e b c → FlightCause {T = T} (Err (halt_of e)) a c
+-- an error's cause after some turns
+pub cause_behind : (T : Type 0) (e : OpErr) (a b c : World) → (e ≡ OpErrs.Failed → ⊥) → (Untampered a → Untampered b) → PassCause e b c → FlightCause {T = T} (Err (halt_of e)) a c
 cause_behind T OpErrs.Failed a b c never calm cause = absurd (never refl)
 cause_behind T (OpErrs.Tampered q x) a b c never calm cause = (cause.1, λ was. cause.2 (calm was))
 cause_behind T OpErrs.Sink a b c never calm cause = λ was. cause.1 (calm was)
 cause_behind T OpErrs.NoMemory a b c never calm cause = λ was. cause.1 (calm was)
 
 -- one of the emitter, by which nothing changed
-pub cause_quiet : (T : Type 0) (error : EmitErr) (a b : World) → (Calm a → Calm b) → FlightCause {T = T} (Err (halt_of (error_of error))) a b
+pub cause_quiet : (T : Type 0) (error : EmitErr) (a b : World) → (Untampered a → Untampered b) → FlightCause {T = T} (Err (halt_of (error_of error))) a b
 cause_quiet T EmitErrs.Failed a b calm = calm
 cause_quiet T EmitErrs.NoMemory a b calm = calm
 
@@ -101,7 +101,7 @@ not_tampered (OpErrs.Tampered q x) never = absurd (never q x refl)
 not_tampered other never = refl
 
 -- a world in which no changed block was read
-pub calm_none : (w : World) → w.store.lie ≡ None → Calm w
+pub calm_none : (w : World) → w.store.lie ≡ None → Untampered w
 calm_none w none = record { calm = λ lie is. absurd (cc (none, is)); within = λ lie is. absurd (cc (none, is)) }
 
 module _ {R E F : Type 0} (state : R → RevState) (grew cut : E → E → List Event → Type 0) (closed parted : E → E → ℕ → Outcome → Type 0) (faults : E → ℕ)
@@ -111,7 +111,7 @@ module _ {R E F : Type 0} (state : R → RevState) (grew cut : E → E → List 
     (v : Vault R) (room : RoomState) (t : StoreState) (free : IsFree old.public room)
     (boards : Boards k (count_of old s) old.public stmts (record { flyers = flyers; kept = shares; world = world_of state old s1 }))
     (out_old out_new : E)
-    (st : Flown.StopsFlight k (taker_of grew cut closed parted) words share e (record { flyers = flyers; kept = shares; world = world_of state old s1 }) (record { flyers = fs; kept = kept; world = at state v t }) out_old out_new) where
+    (st : FlightOutcome.StopsFlight k (taker_of grew cut closed parted) words share e (record { flyers = flyers; kept = shares; world = world_of state old s1 }) (record { flyers = fs; kept = kept; world = at state v t }) out_old out_new) where
   abbrev m : ℕ
   m = count_of old s
 
@@ -205,7 +205,7 @@ module _ {R E F : Type 0} (state : R → RevState) (grew cut : E → E → List 
         single = stage.single f _ may;
       }
 
-  -- whose step gave up behind it
+  -- whose step gave up after it
   stepped_next : (i : ℕ) (f : F) (stmt : Stmt) → slice_get st.last.flyers i ≡ Some f → slice_get stmts i ≡ Some stmt
       → AskedOneMore state grew cut closed parted k old s s1 rests stage steady_of stmts words share e flyers shares now boards out_old out_new st i f → NextAsked i f stmt
   stepped_next i f stmt at there one =
@@ -231,10 +231,10 @@ module _ {R E F : Type 0} (state : R → RevState) (grew cut : E → E → List 
       ])
 
   -- ---- no changed block was read by then
-  pub calm_last : Calm (world_of state old s) → Calm st.last.world
+  pub calm_last : Untampered (world_of state old s) → Untampered st.last.world
   calm_last calm = st.aloft.rest.calm (calm_start state old s s1 agrees rests calm)
 
-  pub lie_last : Calm (world_of state old s) → IsUnfit (at state v t) → st.last.world.store.lie ≡ None
+  pub lie_last : Untampered (world_of state old s) → IsUnfit (at state v t) → st.last.world.store.lie ≡ None
   lie_last calm unfit = elim st.by [
     | inl step ↦ Rattle.ob_tables.proofs.EmitLemmas.lie_none _ st.last.world (at state v t) step.stops.cut.lasts (calm_last calm) unfit
     | inr (inl fin) ↦ unfit_none st.last.world (calm_last calm) (subst (λ (w : World). IsUnfit w) fin.world unfit)

@@ -4,10 +4,10 @@ use Rattle.std.proofs.lemmas.Bool.{false≢true}
 use Rattle.std.proofs.lemmas.List.{map-append}
 use Rattle.ob_base.specs.declared.emit.EmitErr.TheVariants as EmitErrs
 use Rattle.ob_flat.specs.declared.fault.OpErr.TheVariants as OpErrs
-use Rattle.ob_inflight.specs.Aloft.{flight_in}
+use Rattle.ob_inflight.specs.AfterTurns.{flight_in}
 use Rattle.ob_inflight.specs.Answers.{error_of}
-use Rattle.ob_inflight.specs.Flown.{StopsInStep}
-use Rattle.ob_inflight.specs.Flown as Flown
+use Rattle.ob_inflight.specs.FlightOutcome.{StopsInStep}
+use Rattle.ob_inflight.specs.FlightOutcome as FlightOutcome
 use Rattle.ob_script.specs.FlightLaws.{PicksOne}
 use Rattle.ob_script.specs.Flights.{Flight, acted, entry_of, flight, next_act, own, prints, own_asked}
 use Rattle.ob_script.proofs.FlightLemmas.{own_append, own_entry, own_other}
@@ -74,7 +74,7 @@ module _ {R E F : Type 0} (state : R → RevState) (grew cut : E → E → List 
     (stmts : List Stmt) (words : ℕ → ℕ) (share : ℕ) (e : OpErr) (flyers : List F) (shares : List (List ℕ)) (now : Moment F)
     (boards : Boards k (count_of old s) old.public stmts (record { flyers = flyers; kept = shares; world = world_of state old s1 }))
     (out_old out_new : E)
-    (st : Flown.StopsFlight k (taker_of grew cut closed parted) words share e (record { flyers = flyers; kept = shares; world = world_of state old s1 }) now out_old out_new) where
+    (st : FlightOutcome.StopsFlight k (taker_of grew cut closed parted) words share e (record { flyers = flyers; kept = shares; world = world_of state old s1 }) now out_old out_new) where
   abbrev start : Moment F
   start = record { flyers = flyers; kept = shares; world = world_of state old s1 }
 
@@ -109,7 +109,7 @@ module _ {R E F : Type 0} (state : R → RevState) (grew cut : E → E → List 
   pub asked_last : st.last.world.store.asked ≡ s.asked ++ accesses_in st.aloft.turned.log
   asked_last = st.aloft.turned.asked ∙ ap (λ (l : List Access). l ++ accesses_in log) rests.asked
 
-  -- nothing but what was by then, or one access more, which wasn't carried out where it was refused
+  -- nothing except what was by then, or one access more, which wasn't carried out where it was refused
   pub record AsksOne : Type 0 where
     pub step : Stepped
     pub asked : now.world.store.asked ≡ st.last.world.store.asked ++ step.stops.access ∷ []
@@ -236,7 +236,7 @@ module _ {R E F : Type 0} (state : R → RevState) (grew cut : E → E → List 
   abbrev carried : ℕ → ℕ
   carried i = asked_by old.public words stmts (map (λ (f : F). (k.progress f).served.seen) st.last.flyers) (done_of (is_refused (halt_of e)) (asked_since s now.world.store)) i
 
-  -- as many as by then; or it is the one whose step gave up behind an access more, which was carried out or not
+  -- as many as by then; or it is the one whose step gave up after an access more, which was carried out or not
   pub record AskedNoMore (i : ℕ) (f : F) : Type 0 where
     pub asked : asked_by old.public words stmts (map (λ (f : F). (k.progress f).served.seen) st.last.flyers) (asked_since s now.world.store) i ≡ (k.progress f).asked
     pub carried : asked_by old.public words stmts (map (λ (f : F). (k.progress f).served.seen) st.last.flyers) (done_of (is_refused (halt_of e)) (asked_since s now.world.store)) i ≡ (k.progress f).asked
@@ -365,7 +365,7 @@ module _ {R E F : Type 0} (state : R → RevState) (grew cut : E → E → List 
       ])
 
   -- ---- whose turn it was
-  -- its step gave up: behind its access, or before that
+  -- its step gave up: after its access, or before that
   pub in_turn : Stepped → InTurn old.public words stmts (map (λ (f : F). (k.progress f).served.seen) st.last.flyers) (asked_since s now.world.store) st.place
   in_turn step = elim asked_more [
     | inl none ↦ inr (step.stops.access, next_one_asks step.stops.access step.asks none.asked)

@@ -18,7 +18,7 @@ use Rattle.ob_exec.proofs.EmittedRuns.{answered_then, sink_then, stopped_then}
 use Rattle.ob_exec.proofs.PlainRuns.{carried_plain}
 use Rattle.ob_exec.proofs.SavedRuns.{carried_halted, carried_saved, end_own, few_mid, flat_mid}
 use Rattle.ob_exec.proofs.Shares.{Share, share_alone}
-use Rattle.ob_exec.specs.Behind.{IsBegun, SavesBehind}
+use Rattle.ob_exec.specs.Commits.{IsBegun, CommitsIfDue}
 use Rattle.ob_exec.specs.Ran.{CarriedOut, Ran, ShowsNothing, WasNotSaved, is_whole}
 use Rattle.ob_exec.specs.declared.saving.Begun.{Begun}
 use Rattle.ob_exec.specs.Saving.{MayBeSaved, MaySave}
@@ -30,14 +30,14 @@ goes_longer first more last is =
     let parts = length-append first more in
     omega (arith, long, parts)
 
--- what was answered behind which nothing failed is the answer
+-- what was answered after which nothing failed is the answer
 saved_so : {answer result : Result Outcome RunStop} {outcome : Outcome} (A : Type 0) (B : RunStop → Type 0) (saving : Result (Unit {0}) RunStop)
     → MatchResult saving (λ done. (result ≡ answer) × A) (λ stop. (result ≡ Err stop) × B stop) → result ≡ Ok outcome → answer ≡ Ok outcome
 saved_so A B (Ok done) ends is = sym ends.0 ∙ is
 saved_so A B (Err stop) ends is = absurd (cc (ends.0, is))
 
 pub answered_so : {R : Type 0} (state : R → RevState) (due : Bool) (begun : Begun) (answer result : Result Outcome RunStop) (e : Engine R) (s : StoreState) (new : Engine R) (t : StoreState) (k0 k1 : KeeperState)
-    (outcome : Outcome) → SavesBehind state due begun answer result e s new t k0 k1 → result ≡ Ok outcome → answer ≡ Ok outcome
+    (outcome : Outcome) → CommitsIfDue state due begun answer result e s new t k0 k1 → result ≡ Ok outcome → answer ≡ Ok outcome
 answered_so state true begun answer result e s new t k0 k1 outcome follows is = saved_so _ _ follows.saving follows.ends is
 answered_so state false begun answer result e s new t k0 k1 outcome stays is = sym stays.answer_is ∙ is
 
@@ -65,7 +65,7 @@ module _ {R : Type 0} (state : R → RevState) (stmt : Stmt) (owed : List Stmt) 
       subst (λ (q : ℕ). HasNoneFrom q (state mid.vault.revs)) (sym as_begun.next)
       (none_left state (skeleton stmt) old s mid s1 agrees (subst (λ (r : Result Outcome RunStop). RanStatement state (skeleton stmt) r old s mid s1) is share.ran))
 
-  -- behind one that the store failed no tables are due to be saved
+  -- after one that the store failed no tables are due to be saved
   pub undue_then : (answer : Result Outcome RunStop) → Share state stmt owed Halts answer old s mid s1 → answer ≡ Ok (Refused Refusals.StoreFault) → is_due begun.saved answer mid.seen.end ≡ false
   undue_then answer share is =
       let ends : mid.seen.end ≡ Cut (length s1.asked - length s.asked) = share.ran.ends ∙ ap (λ (r : Result Outcome RunStop). result_end r (length s1.asked - length s.asked)) is in
@@ -115,7 +115,7 @@ module _ {R : Type 0} (state : R → RevState) (stmt : Stmt) (owed : List Stmt) 
       }
   may_then (Err stop) Saves share may due = absurd (cc due)
 
-  -- ---- and what is known behind it
+  -- ---- and what is known after it
   module _ (Saves : Type 0) (may : MaySave Saves old) (result : Result Outcome RunStop) (new : Engine R) (t : StoreState) (k0 k1 : KeeperState) where
     listed : is_saved p (skeleton stmt) ≡ true → opened_from old ≡ p.closing
     listed is = may.listed (saved_saves p (skeleton stmt) is)
@@ -155,7 +155,7 @@ module _ {R : Type 0} (state : R → RevState) (stmt : Stmt) (owed : List Stmt) 
 
     -- ---- by whether they are
     pub carried_then : (answer : Result Outcome RunStop) (due : Bool) → is_due begun.saved answer mid.seen.end ≡ due → Share state stmt owed Halts answer old s mid s1
-        → SavesBehind state due begun answer result mid s1 new t k0 k1 → CarriedOut state stmt owed Halts result old s new t k0 k1
+        → CommitsIfDue state due begun answer result mid s1 new t k0 k1 → CarriedOut state stmt owed Halts result old s new t k0 k1
     carried_then answer false not share stays =
         subst (λ (r : Result Outcome RunStop). CarriedOut state stmt owed Halts r old s new t k0 k1) (sym stays.answer_is)
         (subst (λ (e : Engine R). CarriedOut state stmt owed Halts answer old s e t k0 k1) (sym stays.engine_is)
@@ -171,7 +171,7 @@ module _ {R : Type 0} (state : R → RevState) (stmt : Stmt) (owed : List Stmt) 
 
     -- the store still lists what was asked
     pub log_then : (answer : Result Outcome RunStop) (due : Bool) → is_due begun.saved answer mid.seen.end ≡ due → Share state stmt owed Halts answer old s mid s1
-        → SavesBehind state due begun answer result mid s1 new t k0 k1 → t.let_go ≡ s.let_go
+        → CommitsIfDue state due begun answer result mid s1 new t k0 k1 → t.let_go ≡ s.let_go
     log_then answer false not share stays = ap (λ (u : StoreState). u.let_go) stays.store_is ∙ share.ran.later.log
     log_then (Ok outcome) true due share follows = log_due follows.saving follows.last follows.saves ∙ share.ran.later.log
     log_then (Err stop) true due share follows = absurd (cc due)
@@ -181,7 +181,7 @@ module _ {R : Type 0} (state : R → RevState) (stmt : Stmt) (owed : List Stmt) 
     may_alone Still (Err stop) share stays = tt
 
     pub may_behind : (Still : Type 0) (answer : Result Outcome RunStop) (due : Bool) → is_due begun.saved answer mid.seen.end ≡ due → Share state stmt owed Halts answer old s mid s1
-        → SavesBehind state due begun answer result mid s1 new t k0 k1 → (Saves → Still) → OnOk result (MaySave Still new)
+        → CommitsIfDue state due begun answer result mid s1 new t k0 k1 → (Saves → Still) → OnOk result (MaySave Still new)
     may_behind Still answer false not share same stays =
         subst (λ (r : Result Outcome RunStop). OnOk r (MaySave Still new)) (sym same.answer_is)
         (subst (λ (e : Engine R). OnOk answer (MaySave Still e)) (sym same.engine_is) (may_alone Still answer share stays))
@@ -226,7 +226,7 @@ module _ {R E : Type 0} (state : R → RevState) (grew cut : E → E → List Ev
           })
 
     emitted_then : (answer : Result Outcome RunStop) (due : Bool) → is_due begun.saved answer mid.seen.end ≡ due → Serves state grew cut faults stmt answer old s mid s1 out_old out_new
-        → (old.public.save ≡ true → changes_tables (skeleton stmt) ≡ true → ShowsNothing answer mid.seen) → SavesBehind state due begun answer result mid s1 new t k0 k1 → Has result new t
+        → (old.public.save ≡ true → changes_tables (skeleton stmt) ≡ true → ShowsNothing answer mid.seen) → CommitsIfDue state due begun answer result mid s1 new t k0 k1 → Has result new t
     emitted_then answer false not serves shows stays =
         subst (λ (r : Result Outcome RunStop). Has r new t) (sym stays.answer_is)
         (subst (λ (e : Engine R). Has answer e t) (sym stays.engine_is)
@@ -235,7 +235,7 @@ module _ {R E : Type 0} (state : R → RevState) (grew cut : E → E → List Ev
     emitted_then (Err stop) true due serves shows follows = absurd (cc due)
 
     pub ran_then : (Saves : Type 0) → MaySave Saves old → (answer : Result Outcome RunStop) → Serves state grew cut faults stmt answer old s mid s1 out_old out_new
-        → (old.public.save ≡ true → changes_tables (skeleton stmt) ≡ true → ShowsNothing answer mid.seen) → SavesBehind state (is_due begun.saved answer mid.seen.end) begun answer result mid s1 new t k0 k1
+        → (old.public.save ≡ true → changes_tables (skeleton stmt) ≡ true → ShowsNothing answer mid.seen) → CommitsIfDue state (is_due begun.saved answer mid.seen.end) begun answer result mid s1 new t k0 k1
         → Ran state grew cut faults stmt result old s new t out_old out_new k0 k1
     ran_then Saves may answer serves shows behind =
         let emitted = emitted_then answer (is_due begun.saved answer mid.seen.end) refl serves shows behind in

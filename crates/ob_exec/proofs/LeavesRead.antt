@@ -36,7 +36,7 @@ pub data Unread (d : Draws) (indexes : List Index) (number : ℕ → ℕ → ℕ
 abbrev pub behind : Draws → (taken : ℕ) → Draws
 behind d taken = record d { drawn = d.drawn + taken }
 
--- what is known behind a statement: a draw that wasn't read then wasn't before, and is none that the statement read
+-- what is known after a statement: a draw that wasn't read then wasn't before, and is none that the statement read
 pub record Onwards (d : Draws) (taken : ℕ) (old new : List Index) (g : Given d old) (read : Option ℕ) : Type 0 where
   pub given : Given (behind d taken) new
   pub unread : (m : ℕ) → Unread (behind d taken) new given.number m → Unread d old g.number m

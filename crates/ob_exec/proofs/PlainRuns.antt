@@ -1,5 +1,5 @@
--- A statement behind which no tables are saved: the engine's share is all of it.
-use Rattle.ob_exec.proofs.Words.{Access, AfterCount, Agrees, ap, append_assoc, arith, Bool, changes_tables, ChangesFlat, count_of, Create, Cut, Delete, End, Engine, Err, false, if◌then◌else◌, inl, inr, Insert, is_access, is_late, is_saved, Joined, KeeperFault, KeeperState, left_by, length, length-append, List, None, Ok, OnOk, Opens, Option, Outcome, Public, refl, Refusal, refusal_now, RefusedEarly, Result, RevState, run_script, RunStop, script, Seen, SinkFault, Skeleton, skeleton, Some, StashFull, Static, Stmt, StoreState, subst, sym, take, true, until_end, Update, Whole, whole_script, World, world_of, ℕ, ◌&&◌, ◌++◌, ◌+◌, ◌-◌, ◌∙◌, ◌≡◌, ◌≤◌, ◌⊎◌}
+-- A statement after which no tables are saved: the engine's share is all of it.
+use Rattle.ob_exec.proofs.Words.{Access, AfterCount, Agrees, ap, append_assoc, arith, Bool, changes_tables, ChangesFlat, count_of, Create, Cut, Delete, End, Engine, Err, false, if◌then◌else◌, inl, inr, Insert, is_access, is_late, is_saved, Batched, KeeperFault, KeeperState, left_by, length, length-append, List, None, Ok, OnOk, Opens, Option, Outcome, Public, refl, Refusal, refusal_now, RefusedEarly, Result, RevState, run_script, RunStop, script, Seen, SinkFault, Skeleton, skeleton, Some, StashFull, Static, Stmt, StoreState, subst, sym, take, true, until_end, Update, Whole, whole_script, World, world_of, ℕ, ◌&&◌, ◌++◌, ◌+◌, ◌-◌, ◌∙◌, ◌≡◌, ◌≤◌, ◌⊎◌}
 use Rattle.std.proofs.lemmas.List.{length-take, take-append-le}
 use Rattle.ob_base.specs.Accesses.{makes}
 use Rattle.ob_mean.specs.Lawful.{Holds}
@@ -117,7 +117,7 @@ module _ {R : Type 0} (state : R → RevState) (stmt : Stmt) (owed : List Stmt) 
     changed_by Static is = record { script_is = ends_at Static (whole_run p sk now) (whole_script p sk now) is refl; closing_is = ap (closing_then p sk) is }
     changed_by Whole is = not_whole result _ unsaved share.ran.ends saved is
     changed_by AfterCount is = not_counted is
-    changed_by Joined is = record { script_is = ends_at Joined (whole_run p sk now) (whole_script p sk now) is refl; closing_is = ap (closing_then p sk) is }
+    changed_by Batched is = record { script_is = ends_at Batched (whole_run p sk now) (whole_script p sk now) is refl; closing_is = ap (closing_then p sk) is }
     changed_by (Cut k) is =
         let asked : t.asked ≡ s.asked ++ take k (whole_run p sk now) = share.ran.asked ∙ ap (λ (e : End). s.asked ++ until_end e (whole_run p sk now)) is in
         let count = ends_cut result k _ (sym is ∙ share.ran.ends) in

@@ -1,5 +1,5 @@
 -- A SELECT of the rows of a fresh region, which other accesses made and one more discards.
-use Rattle.ob_exec.proofs.Words.{Access, answer_events, ap, append-nil, append_assoc, AreHeld, arith, Bool, cases_eq, count_end, count_part, counted_after, discard_at, done_of, End, EndsRows, Err, Event, extent_of, false, from, HaltsRows, HasHalted, header, held_empty, held_if, HoldsRows, HoldsSeen, Index, inl, inr, is_of_access, IsSome, IsTrue, IsUnfit, KeySet, Lasts, Later, Leads, LeavesNone, length, length-append, length-count_part, Lie, List, MayHold, nat_le, nat_tests, None, none_before, Ok, OpErr, Option, PassCut, places, Plan, Public, ReadsIn, refl, Result, rows_script, Seals, seals_join, SealsRows, Seen, Selected, Selection, selection_script, selection_seen, SelectsFrom, Slots, slots_of, Some, SourceToEnd, SourceToHalt, stated, StoreState, subst, sym, Tables, true, walk_end, Went, World, ℕ, [], ◌++◌, ◌+◌, ◌-◌, ◌∙◌, ◌∷◌, ◌≡◌, ◌≤◌, ◌⊎◌}
+use Rattle.ob_exec.proofs.Words.{Access, answer_events, ap, append-nil, append_assoc, AreHeld, arith, Bool, cases_eq, count_end, count_part, counted_after, discard_at, done_of, End, EndsRows, Err, Event, extent_of, false, from, HaltsRows, HasHalted, header, held_empty, held_if, HoldsRows, HoldsSeen, Index, inl, inr, is_of_access, IsSome, IsTrue, IsUnfit, KeySet, Lasts, Later, Leads, LeavesNone, length, length-append, length-count_part, FalseRead, List, MayHold, nat_le, nat_tests, None, none_before, Ok, OpErr, Option, PassCut, places, Plan, Public, ReadsIn, refl, Result, rows_script, Seals, seals_join, SealsRows, Seen, Selected, Selection, selection_script, selection_seen, SelectsFrom, Slots, slots_of, Some, SourceToEnd, SourceToHalt, stated, StoreState, subst, sym, Tables, true, walk_end, Went, World, ℕ, [], ◌++◌, ◌+◌, ◌-◌, ◌∙◌, ◌∷◌, ◌≡◌, ◌≤◌, ◌⊎◌}
 use Rattle.std.specs.List.{list_all}
 use Rattle.ob_script.specs.Script.{blocks_of}
 use Rattle.ob_exec.proofs.RowsLawful.{seen_as}
@@ -78,7 +78,7 @@ ending_whole None (Some k) ending counted = refl
 ending_whole None None ending (inl some) = absurd (cc some)
 ending_whole None None ending (inr some) = absurd (cc some)
 
--- the first result is read back behind the count
+-- the first result is read back after the count
 walks_late : (p : Public) (select : SelectRows) (g k : ℕ) (plan second : Plan) (end : End) (now : Seen) → now ≡ seen_as (Some k) (Some plan) (Some second) end
     → counted_after (stated p select g 1) ≤ walked_after (stated p select g 1) now
 walks_late p select g k plan second end now two =
@@ -98,8 +98,8 @@ module _ (p : Public) (select : SelectRows) (g : ℕ) (x : List Access) (a b : W
   q = stated p select g 1
 
   -- a changed block that was read by the end of the selection
-  reads_by : (c : World) → Later b.store c.store → ((y : SelectsToEnd q b b) (lie : Lie) → c.store.lie ≡ Some lie → ReadsIn lie (b.store.asked ++ selection_script q (selection_seen q y.slots) b.vault.next))
-      → (y : SourceToEnd p a a) (lie : Lie) → c.store.lie ≡ Some lie → ReadsIn lie (a.store.asked ++ rows_script p select (selection_seen q (slots_of p select y.tables)))
+  reads_by : (c : World) → Later b.store c.store → ((y : SelectsToEnd q b b) (lie : FalseRead) → c.store.lie ≡ Some lie → ReadsIn lie (b.store.asked ++ selection_script q (selection_seen q y.slots) b.vault.next))
+      → (y : SourceToEnd p a a) (lie : FalseRead) → c.store.lie ≡ Some lie → ReadsIn lie (a.store.asked ++ rows_script p select (selection_seen q (slots_of p select y.tables)))
   reads_by c later begun y lie told =
       let slots = slots_of p select y.tables in
       let meant = selection_seen q slots in
@@ -185,7 +185,7 @@ module _ (p : Public) (select : SelectRows) (g : ℕ) (x : List Access) (a b : W
           second = second_holds failed slots held (rows_seconded p (length slots) (places q slots));
         }
 
-    -- want of memory behind the accesses that made it
+    -- want of memory after the accesses that made it
     lacks_all : e ≡ OpErrs.NoMemory → LacksRowMemory p select now a d (HasHalted (Leads grew cut) out_old out_new)
     lacks_all wanted =
         let lacks = is.memory (an_error wanted) in

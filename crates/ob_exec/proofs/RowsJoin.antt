@@ -35,7 +35,7 @@ use Rattle.ob_select.proofs.SelectLength.{select_length}
 use Rattle.ob_exec.proofs.RowsTable.{not_late, some_of, stated_is}
 use Rattle.ob_tables.proofs.TableLemmas.{flat_kept, stored_found}
 
--- what follows a selection stands behind it
+-- what follows a selection stands after it
 behind_parts : (count first next ending : List Access) → count ++ (first ++ (next ++ ending)) ≡ (count ++ (first ++ (next ++ []))) ++ ending
 behind_parts count first next ending =
     ap (λ (x : List Access). count ++ (first ++ (x ++ ending))) (sym (append-nil next)) ∙ simp append_assoc

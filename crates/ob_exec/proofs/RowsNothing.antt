@@ -18,7 +18,7 @@ use Rattle.ob_exec.proofs.RowsSeconded.{Seconded, alone, followed, held_none, ro
 use Rattle.ob_exec.proofs.RowsReach.{count_length, joined_part, joined_stored, part, part_length, table_asks, unpadded}
 use Rattle.ob_tables.proofs.RunLemmas.{world}
 
--- ---- the first result is read back behind the count
+-- ---- the first result is read back after the count
 module _ (p : Public) (k : ℕ) (plan : Plan) (second : Option Plan) (end : End) where
   result_some : (taken : Plan) (rows g : ℕ) (t : Stored ℕ) → 1 ≤ length (result_part p (Some taken) rows g (extent_of t))
   result_some taken rows g t =

@@ -1,5 +1,5 @@
 -- A SELECT of rows whose rows were emitted, and that was stopped at their number.
-use Rattle.ob_exec.proofs.Words.{Access, answer_events, ap, append-nil, append_assoc, arith, Bool, buffered_blocks, Calm, closing, count_end, count_part, discard_at, End, EndsRows, Event, extent_of, false, header, held_if, HoldsRows, inl, inr, is_access, is_of_access, Leads, length, length-append, List, MayHold, nat_le, nat_tests, None, OpErr, Option, option_map_or, Plan, Public, refl, Refusal, row_events, rows_script, Seen, Selected, Selection, selection, selection_answer, slots_of, Some, Source, SourceToEnd, SourceToHalt, Stored, stored_at, subst, sym, true, unfit_none, walk_end, Whole, World, ℕ, [], ◌++◌, ◌+◌, ◌-◌, ◌∙◌, ◌≡◌, ◌≤◌, ◌⊎◌}
+use Rattle.ob_exec.proofs.Words.{Access, answer_events, ap, append-nil, append_assoc, arith, Bool, buffered_blocks, Untampered, closing, count_end, count_part, discard_at, End, EndsRows, Event, extent_of, false, header, held_if, HoldsRows, inl, inr, is_access, is_of_access, Leads, length, length-append, List, MayHold, nat_le, nat_tests, None, OpErr, Option, option_map_or, Plan, Public, refl, Refusal, row_events, rows_script, Seen, Selected, Selection, selection, selection_answer, slots_of, Some, Source, SourceToEnd, SourceToHalt, Stored, stored_at, subst, sym, true, unfit_none, walk_end, Whole, World, ℕ, [], ◌++◌, ◌+◌, ◌-◌, ◌∙◌, ◌≡◌, ◌≤◌, ◌⊎◌}
 use Rattle.ob_base.specs.declared.schema.Shape.TheVariants.{Flat as FlatShape}
 use Rattle.ob_base.specs.declared.skeleton.Source.TheVariants.{Table as OneTable, Join}
 use Rattle.ob_base.specs.Joins.{joined_slots}
@@ -158,7 +158,7 @@ counted_as q answer None None None end may is = inr (uncounted q answer end is).
 pub counted_some : (q : Selection) (answer : Selected) (now : Seen) → now.leaf ≡ None → MayHold q now.k now.plan now.then → EndsSelected q answer now → HasCounted q.public now
 counted_some q answer now leaf may is = counted_as q answer now.k now.plan now.then now.end may (subst (EndsSelected q answer) (unread now leaf) is)
 
-closing_cause : (e : OpErr) (a b : World) → (e ≡ OpErrs.Sink) ⊎ (e ≡ OpErrs.NoMemory) → b.store.faults ≡ a.store.faults → (Calm a → Calm b) → PassCause e a b
+closing_cause : (e : OpErr) (a b : World) → (e ≡ OpErrs.Sink) ⊎ (e ≡ OpErrs.NoMemory) → b.store.faults ≡ a.store.faults → (Untampered a → Untampered b) → PassCause e a b
 closing_cause e a b never faults calm = elim never [
   | inl is ↦ subst (λ (x : OpErr). PassCause x a b) (sym is) (faults, calm)
   | inr is ↦ subst (λ (x : OpErr). PassCause x a b) (sym is) (faults, calm)

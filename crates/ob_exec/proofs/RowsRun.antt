@@ -1,5 +1,5 @@
 -- What a SELECT of rows leaves, whatever the store does.
-use Rattle.ob_exec.proofs.Words.{Access, AfterCount, Agrees, answer_of, ap, arith, at, Bool, Cut, End, EndsRows, Engine, Event, false, from, inl, inr, is_access, is_fault, is_stop, IsFree, Joined, Lasts, LeavesNone, length, length-append, List, None, of_other, Ok, Opens, OpErr, others_of, PassCut, Public, refl, region_below, RevState, RoomState, rows_script, run_script, same_script, Seen, Selected, selected_outcome, selection, Static, StoreState, subst, sym, take, UsesRoomFor, Vault, Whole, World, world_of, ℕ, [], ◌++◌, ◌+◌, ◌-◌, ◌^◌, ◌∙◌, ◌∷◌, ◌≡◌}
+use Rattle.ob_exec.proofs.Words.{Access, AfterCount, Agrees, answer_of, ap, arith, at, Bool, Cut, End, EndsRows, Engine, Event, false, from, inl, inr, is_access, is_fault, is_stop, IsFree, Batched, Lasts, LeavesNone, length, length-append, List, None, of_other, Ok, Opens, OpErr, others_of, PassCut, Public, refl, region_below, RevState, RoomState, rows_script, run_script, same_script, Seen, Selected, selected_outcome, selection, Static, StoreState, subst, sym, take, UsesRoomFor, Vault, Whole, World, world_of, ℕ, [], ◌++◌, ◌+◌, ◌-◌, ◌^◌, ◌∙◌, ◌∷◌, ◌≡◌}
 use Rattle.std.proofs.Common.{◌%◌}
 use Rattle.ob_store.proofs.Steps.{began_take}
 use Rattle.ob_script.specs.Saved.{run_next}

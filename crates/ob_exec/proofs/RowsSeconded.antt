@@ -1,4 +1,4 @@
--- A second plan comes behind a first, and nothing is held of either before.
+-- A second plan comes after a first, and nothing is held of either before.
 use Rattle.ob_exec.proofs.Words.{AfterCount, ap, arith, Bool, End, false, Hash, held_if, if◌then◌else◌, length, List, nat_le, nat_tests, None, Option, Plan, Public, refl, Seen, Small, Some, sym, true, Whole, ℕ, [], ◌<◌, ◌∷◌, ◌≡◌}
 use Rattle.ob_base.specs.declared.config.Plan.TheVariants.{Large, Continuous}
 use Rattle.ob_row.specs.Slots.{is_consecutive}

@@ -1,5 +1,5 @@
 -- A SELECT of rows that was stopped, or that the store cut off.
-use Rattle.ob_exec.proofs.Words.{Access, accessed, Agrees, answer_events, answer_labels, answer_of, ap, AreDraws, AreInPlace, arith, at, Bool, closing, count_of, Cut, cut_at, database, Draws, early_held, early_refusal, Engine, Err, Event, false, from, HaltsRows, Hash, HasHalted, Head, header, headings, headings_of, HoldsRows, IfErr, IfOk, if◌then◌else◌, inl, inr, is_access, is_late, is_of_access, is_refused, is_stop, IsNotTampered, IsUnfit, labels_of, Lasts, Leads, LeavesNone, length, length-append, Lie, limits_of, List, MayHold, None, none_before, OpErr, Option, others_of, Outcome, PassCut, places, Plan, Public, ReadsIn, ReadsTrue, ReadsTrueUntil, refl, refusal_now, RefusedEarly, region_below, Result, RevState, RoomState, row_events, rows, rows_script, run_script, RunStop, Same, same_script, SealsRows, Seen, Selected, selection, selection_answer, selection_seen, Serves, SinkCause, SinkStops, skeleton, slots_of, Small, Some, source_rows, SourceToEnd, SourceToHalt, Static, Stopped, StoreState, subst, sym, Tables, true, until_end, UsesRoomFor, Vault, World, world_of, ℕ, [], ◌++◌, ◌-◌, ◌∙◌, ◌∷◌, ◌≡◌, ◌≤◌, ◌⊎◌}
+use Rattle.ob_exec.proofs.Words.{Access, accessed, Agrees, answer_events, answer_labels, answer_of, ap, AreDraws, AreInPlace, arith, at, Bool, closing, count_of, Cut, cut_at, database, Draws, early_held, early_refusal, Engine, Err, Event, false, from, HaltsRows, Hash, HasHalted, Head, header, headings, headings_of, HoldsRows, IfErr, IfOk, if◌then◌else◌, inl, inr, is_access, is_late, is_of_access, is_refused, is_stop, IsNotTampered, IsUnfit, labels_of, Lasts, Leads, LeavesNone, length, length-append, FalseRead, limits_of, List, MayHold, None, none_before, OpErr, Option, others_of, Outcome, PassCut, places, Plan, Public, ReadsIn, ReadsTrue, ReadsTrueUntil, refl, refusal_now, RefusedEarly, region_below, Result, RevState, RoomState, row_events, rows, rows_script, run_script, RunStop, Same, same_script, SealsRows, Seen, Selected, selection, selection_answer, selection_seen, Serves, SinkCause, SinkStops, skeleton, slots_of, Small, Some, source_rows, SourceToEnd, SourceToHalt, Static, Stopped, StoreState, subst, sym, Tables, true, until_end, UsesRoomFor, Vault, World, world_of, ℕ, [], ◌++◌, ◌-◌, ◌∙◌, ◌∷◌, ◌≡◌, ◌≤◌, ◌⊎◌}
 use Rattle.ob_tables.specs.declared.stop.RunStop.TheVariants as Stops
 use Rattle.ob_row.specs.Slots.{is_consecutive}
 use Rattle.ob_base.specs.declared.config.Plan.TheVariants.{Large, Continuous}
@@ -50,7 +50,7 @@ pub record StopsRows {E : Type 0} (grew cut : E → E → List Event → Type 0)
   pub held : (s : SourceToHalt p old new) → HoldsRows p select (slots_of p select s.tables) (is_of_access error) (length new.store.asked - length old.store.asked) now
   pub begun : ReadsMeant p select old new
 
--- a SELECT of rows comes to its end, or is refused behind its count
+-- a SELECT of rows comes to its end, or is refused after its count
 until_rows : (pad : Option ℕ) (p : Public) (n : ℕ) (places : List ℕ) (all : List Access) → until_end (seen_by pad p n places).end all ≡ all
 until_rows (Some pad) p n places all = refl
 until_rows None p n [] all = refl
@@ -158,7 +158,7 @@ module _ {R : Type 0} (state : R → RevState) (old : Engine R) (s : StoreState)
         (rows_seen old.public (count_of old s) select tables headed stands.in_place flat early agrees.settings.pack_least agrees.settings.blocks agrees.settings.padded source.labelled rows_of d)
         none failed (length t.asked - length s.asked) now holds leaf
 
-  pub rows_begun : ReadsMeant old.public select before after → (tables : Tables) (d : Draws) → AreDraws old d → ReadsTrue state old s s tables → (lie : Lie) → t.lie ≡ Some lie
+  pub rows_begun : ReadsMeant old.public select before after → (tables : Tables) (d : Draws) → AreDraws old d → ReadsTrue state old s s tables → (lie : FalseRead) → t.lie ≡ Some lie
       → ReadsIn lie (s.asked ++ meant_script d old.public (count_of old s) tables (RowsStmt select))
   rows_begun begun tables d of reads lie told =
       let q = selection old.public select in

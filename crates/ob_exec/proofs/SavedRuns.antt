@@ -1,5 +1,5 @@
--- A statement that changes tables, and the saving of them behind it.
-use Rattle.ob_exec.proofs.Words.{Access, accessed, Agrees, ap, append-nil, append_assoc, AreDraws, arith, Bool, by_fault, Calm, changes_tables, ChangesFlat, count_of, Cut, Draws, early_held, ended_at, Engine, Err, false, headings_of, Index, inl, inr, is_access, is_fault, is_late, is_refused, is_saved, is_store_fault, IsFree, IsNotTampered, IsTrue, KeeperFault, KeeperState, KeySet, Later, Lawful, left_by, length, length-append, Lie, List, list_any, nat_le, nat_tests, None, none_before, of_other, Ok, Opens, Option, Outcome, outcome_end, Public, ReadsIn, ReadsTrue, refl, Refusal, refusal_now, RefusedEarly, Result, RevState, run_script, RunStop, SavesTables, SavingCause, script, seals_join, Seen, SinkFault, Skeleton, skeleton, Some, StashFull, Stmt, StoreState, subst, sym, Tables, take, true, Whole, whole_script, World, world_of, ℕ, [], ◌++◌, ◌+◌, ◌-◌, ◌<◌, ◌^◌, ◌||◌, ◌∙◌, ◌∷◌, ◌≡◌, ◌≤◌, ◌⊎◌}
+-- A statement that changes tables, and the saving of them after it.
+use Rattle.ob_exec.proofs.Words.{Access, accessed, Agrees, ap, append-nil, append_assoc, AreDraws, arith, Bool, by_fault, Untampered, changes_tables, ChangesFlat, count_of, Cut, Draws, early_held, ended_at, Engine, Err, false, headings_of, Index, inl, inr, is_access, is_fault, is_late, is_refused, is_saved, is_store_fault, IsFree, IsNotTampered, IsTrue, KeeperFault, KeeperState, KeySet, Later, Lawful, left_by, length, length-append, FalseRead, List, list_any, nat_le, nat_tests, None, none_before, of_other, Ok, Opens, Option, Outcome, outcome_end, Public, ReadsIn, ReadsTrue, refl, Refusal, refusal_now, RefusedEarly, Result, RevState, run_script, RunStop, SavesTables, SavingCause, script, seals_join, Seen, SinkFault, Skeleton, skeleton, Some, StashFull, Stmt, StoreState, subst, sym, Tables, take, true, Whole, whole_script, World, world_of, ℕ, [], ◌++◌, ◌+◌, ◌-◌, ◌<◌, ◌^◌, ◌||◌, ◌∙◌, ◌∷◌, ◌≡◌, ◌≤◌, ◌⊎◌}
 use Rattle.std.proofs.Common.{◌%◌}
 use Rattle.std.proofs.lemmas.List.{take_at}
 use Rattle.ob_base.specs.Accesses.{drop_script, make_at, makes, write_at, writes}
@@ -89,7 +89,7 @@ either_true false b is = inr is
 least : (a b : ℕ) → nat_le a b ≡ true → a ≤ b
 least a b le = grind (arith, nat_tests)
 
--- ---- behind the engine's share, which came to its end
+-- ---- after the engine's share, which came to its end
 module _ {R : Type 0} (state : R → RevState) (stmt : Stmt) (owed : List Stmt) (Halts : Type 0) (outcome : Outcome) (old : Engine R) (s : StoreState) (mid : Engine R) (s1 : StoreState)
     (agrees : Agrees state old s) (share : Share state stmt owed Halts (Ok outcome) old s mid s1) (saved : is_saved old.public (skeleton stmt) ≡ true) (whole : mid.seen.end ≡ Whole) where
   abbrev p : Public
@@ -158,14 +158,14 @@ module _ {R : Type 0} (state : R → RevState) (stmt : Stmt) (owed : List Stmt) 
   closing_written = closing_is p sk mid.seen mid.public saves changed whole on.public
 
   -- a changed block that was read was read by the engine's share, since saving reads nothing
-  module _ (new : Engine R) (t : StoreState) (more : List Access) (unread : Unread more) (asked : t.asked ≡ s1.asked ++ more) (later : Later s1 t) (calm : Calm (world_of state mid s1) → Calm (world_of state new t)) where
+  module _ (new : Engine R) (t : StoreState) (more : List Access) (unread : Unread more) (asked : t.asked ≡ s1.asked ++ more) (later : Later s1 t) (calm : Untampered (world_of state mid s1) → Untampered (world_of state new t)) where
     reads_mid : (tables : Tables) → ReadsTrue state old s t tables → ReadsTrue state old s s1 tables
     reads_mid tables reads = record { tells = reads.tells; held = reads.held; nolie = none_before s1 t later reads.nolie }
 
     meant_mid : (tables : Tables) (d : Draws) → AreDraws old d → ReadsTrue state old s s1 tables → Meant state stmt owed m d tables outcome old mid s1
     meant_mid tables d of reads = whole_of (is_fault outcome) _ _ own (share.means.told tables d of reads)
 
-    begun_then : (tables : Tables) (d : Draws) → AreDraws old d → ReadsTrue state old s s tables → (lie : Lie) → t.lie ≡ Some lie → ReadsIn lie (s.asked ++ meant_script d p m tables stmt)
+    begun_then : (tables : Tables) (d : Draws) → AreDraws old d → ReadsTrue state old s s tables → (lie : FalseRead) → t.lie ≡ Some lie → ReadsIn lie (s.asked ++ meant_script d p m tables stmt)
     begun_then tables d of reads lie told = elim (lie_before s1 t lie later told) [
       | inl none ↦
           let meant = meant_mid tables d of (record { tells = reads.tells; held = reads.held; nolie = none }) in
@@ -360,7 +360,7 @@ module _ {R : Type 0} (state : R → RevState) (stmt : Stmt) (owed : List Stmt) 
           inr (omega (arith, large, start, written))
     ]
 
-    calm_cut : Calm (world_of state old s) → Calm (world_of state new t)
+    calm_cut : Untampered (world_of state old s) → Untampered (world_of state new t)
     calm_cut calm = halts.calm (share.ran.cause.1 calm)
 
     store_cause : Rises s1.faults t.faults ⊎ IsUsedUp mid s1 t → Rises s.faults t.faults ⊎ LacksNumber p sk (world_of state old s) (world_of state new t)

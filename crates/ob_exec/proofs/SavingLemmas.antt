@@ -1,5 +1,5 @@
 -- An engine's tables are saved by a keeper, whatever fails.
-use Rattle.ob_exec.proofs.Words.{Access, Agrees, ap, append-nil, append_assoc, arith, Bool, Calm, ChangesNothing, Engine, Err, false, inl, inr, IsFree, KeeperFault, KeeperState, Later, length, length-append, List, none, Ok, Option, others_of, Public, ReadsIn, refl, RevState, SavesTables, SavingCause, Seals, seals_join, Some, StoreState, subst, sym, Tables, true, Went, went_rests, world_of, ℕ, [], ◌++◌, ◌∙◌, ◌≡◌, ◌≤◌, ◌⊎◌}
+use Rattle.ob_exec.proofs.Words.{Access, Agrees, ap, append-nil, append_assoc, arith, Bool, Untampered, ChangesNothing, Engine, Err, false, inl, inr, IsFree, KeeperFault, KeeperState, Later, length, length-append, List, none, Ok, Option, others_of, Public, ReadsIn, refl, RevState, SavesTables, SavingCause, Seals, seals_join, Some, StoreState, subst, sym, Tables, true, Went, went_rests, world_of, ℕ, [], ◌++◌, ◌∙◌, ◌≡◌, ◌≤◌, ◌⊎◌}
 use Rattle.ob_base.specs.Accesses.{drop_script, make_at}
 use Rattle.ob_base.specs.Counts.{Rises}
 use Rattle.ob_base.specs.declared.fault.Failed.{Failed}
@@ -53,7 +53,7 @@ later_syncs s t syncs = record {
 }
 
 module _ {R : Type 0} (state : R → RevState) (e : Engine R) (s t : StoreState) where
-  calm_syncs : Syncs s t → Calm (world_of state e s) → Calm (world_of state e t)
+  calm_syncs : Syncs s t → Untampered (world_of state e s) → Untampered (world_of state e t)
   calm_syncs syncs calm = record {
     calm = λ lie is. calm.calm lie (sym syncs.lie ∙ is);
     within = λ lie is. subst (ReadsIn lie) (sym syncs.asked) (calm.within lie (sym syncs.lie ∙ is));
@@ -163,7 +163,7 @@ module _ {R : Type 0} (state : R → RevState) (left : Option ℕ) (e : Engine R
     later_then : Later s t
     later_then = later_trans s s1 t saves.later (later_syncs s1 t syncs)
 
-    calm_then : Calm (world_of state e s) → Calm (world_of state e1 t)
+    calm_then : Untampered (world_of state e s) → Untampered (world_of state e1 t)
     calm_then calm = calm_syncs state e1 s1 t syncs (saves.calm calm)
 
     sealed_then : (good : ℕ → List ℕ → Bool) → AcceptsRows good (public_of e).pack → AcceptsClosings good → Seals good (world_of state e s) (world_of state e1 t)

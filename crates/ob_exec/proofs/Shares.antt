@@ -1,4 +1,4 @@
--- The engine's own share of a statement, but for what it emits: of one that is served by itself, and of a batch.
+-- The engine's own share of a statement, except for what it emits: of one that is served by itself, and of a batch.
 use Rattle.ob_exec.proofs.Words.{ap, AreDraws, changes_tables, count_of, Create, Delete, Draws, Engine, Err, Event, false, HasHalted, Insert, IsSome, Lawful, List, Outcome, refl, refusal_now, RefusedEarly, Result, RevState, RunStop, Serves, SinkFault, skeleton, StashFull, Stmt, StoreState, subst, true, Update, world_of, ℕ, [], ◌≡◌}
 use Rattle.ob_mean.proofs.BatchLemmas.{begins}
 use Rattle.ob_mean.specs.Batches.{inserts_into}

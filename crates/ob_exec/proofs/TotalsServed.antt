@@ -87,7 +87,7 @@ on_stop grew cut P events a b starts (OpErrs.Tampered q x) leads h = h (Stops.Ta
 on_stop grew cut P events a b starts OpErrs.Sink leads h = h Stops.SinkFault (leads a [] starts)
 on_stop grew cut P events a b starts OpErrs.NoMemory leads h = h Stops.NoMemory (inr (leads a [] starts))
 
--- want of memory behind all accesses was the emitter's
+-- want of memory after all accesses was the emitter's
 given_up : {E : Type 0} (grew cut : E → E → List Event → Type 0) (events : List Event) (a b : E) → grew a a [] → (e : OpErr) → e ≡ OpErrs.NoMemory → Leads grew (ends_by grew cut e) a b events → HasHalted cut a b
 given_up grew cut events a b starts OpErrs.NoMemory is leads = record { events = events; ends = leads a [] starts }
 given_up grew cut events a b starts other is leads = absurd (cc is)

@@ -1,5 +1,5 @@
 -- What saving asks reads nothing: a changed block that was read was read before.
-use Rattle.ob_exec.proofs.Words.{Access, Lie, List, None, Option, ReadsIn, Some, subst, suc, sym, zero, ℕ, [], ◌++◌, ◌∙◌, ◌∷◌, ◌≡◌}
+use Rattle.ob_exec.proofs.Words.{Access, FalseRead, List, None, Option, ReadsIn, Some, subst, suc, sym, zero, ℕ, [], ◌++◌, ◌∙◌, ◌∷◌, ◌≡◌}
 use Rattle.ob_base.specs.Accesses.{drop_script, make_at, write_at}
 use Rattle.ob_base.specs.Lists.{each}
 use Rattle.ob_base.specs.declared.access.Access.TheVariants.{Discard, Make, Open, Read, Write}
@@ -63,7 +63,7 @@ read_back (b ∷ before) (a ∷ xs) rest more q x none is =
     let there = read_back before xs rest more q x none later in
     (there.0, (λ i. first i ∷ there.1 i))
 
-pub reads_back : (lie : Lie) (xs more all : List Access) → Unread more → all ≡ xs ++ more → ReadsIn lie all → ReadsIn lie xs
+pub reads_back : (lie : FalseRead) (xs more all : List Access) → Unread more → all ≡ xs ++ more → ReadsIn lie all → ReadsIn lie xs
 reads_back lie xs more all none is reads =
     let there = read_back lie.before xs reads.rest more lie.region lie.place none (reads.is ∙ is) in
     record { rest = there.0; is = there.1 }

@@ -23,7 +23,7 @@ pub use Rattle.ob_base.specs.declared.refusal.Refusal.{Refusal}
 pub use Rattle.ob_base.specs.declared.refusal.Refusal.TheVariants.{PadPassed}
 pub use Rattle.ob_base.specs.declared.schema.Heading.{Heading}
 pub use Rattle.ob_base.specs.declared.seen.End.{End}
-pub use Rattle.ob_base.specs.declared.seen.End.TheVariants.{AfterCount, Cut, Joined, Static, Whole}
+pub use Rattle.ob_base.specs.declared.seen.End.TheVariants.{AfterCount, Cut, Batched, Static, Whole}
 pub use Rattle.ob_base.specs.declared.seen.Seen.{Seen}
 pub use Rattle.ob_base.specs.declared.shown.Shown.{Shown}
 pub use Rattle.ob_base.specs.declared.skeleton.Skeleton.{Skeleton}
@@ -33,8 +33,8 @@ pub use Rattle.ob_flat.proofs.Tables.{blocks_few}
 pub use Rattle.ob_flat.specs.Flats.{IsFlat, IsSized}
 pub use Rattle.ob_flat.specs.Passes.{is_of_access, PassCut, SinkCause}
 pub use Rattle.ob_flat.specs.declared.fault.OpErr.{OpErr}
-pub use Rattle.ob_inflight.specs.Aloft.{setting_off}
-unfoldable pub use Rattle.ob_inflight.specs.Aloft.{AllMay}
+pub use Rattle.ob_inflight.specs.AfterTurns.{setting_off}
+unfoldable pub use Rattle.ob_inflight.specs.AfterTurns.{AllMay}
 pub use Rattle.ob_inflight.specs.Closing.{Closed, events_at}
 pub use Rattle.ob_inflight.specs.Kinds.{Kind, Moment, taker_of}
 pub use Rattle.ob_inflight.specs.Progress.{act_of, flying_of, Progress}
@@ -82,7 +82,7 @@ pub use Rattle.ob_stages.specs.declared.rows.Stage.{Stage}
 pub use Rattle.ob_store.proofs.Steps.{later_rests, none_before}
 pub use Rattle.ob_store.specs.Calls.{ChangesNothing}
 pub use Rattle.ob_store.specs.Runs.{Later}
-pub use Rattle.ob_store.specs.State.{Lie, StoreState}
+pub use Rattle.ob_store.specs.State.{FalseRead, StoreState}
 pub use Rattle.ob_tables.proofs.EmitLemmas.{unfit_none}
 pub use Rattle.ob_tables.proofs.FoundLemmas.{heading_found, is_there}
 pub use Rattle.ob_tables.proofs.HeldLemmas.{held_at}
@@ -103,13 +103,13 @@ pub use Rattle.ob_vault.proofs.WordLemmas.{seals_rests, went_rests}
 pub use Rattle.ob_vault.specs.Calls.{Lasts, none, Seals, Went}
 pub use Rattle.ob_vault.specs.Places.{at}
 pub use Rattle.ob_vault.specs.State.{RevState, World}
-pub use Rattle.ob_vault.specs.Tied.{Calm, IsUnfit, ReadsIn}
+pub use Rattle.ob_vault.specs.Tied.{Untampered, IsUnfit, ReadsIn}
 pub use Rattle.ob_vault.specs.declared.vault.Vault.{Vault}
 pub use Rattle.ob_verdict.proofs.LawfulProof.{same_script}
 pub use Rattle.ob_verdict.specs.Laws.{AreInPlace}
 pub use Rattle.ob_verdict.specs.Outcomes.{by_fault, Emits, Partly, refusal_now}
 pub use Rattle.ob_verdict.specs.declared.outcome.Outcome.{Outcome}
-pub use Rattle.ob_exec.specs.Behind.{ended_at, is_due}
+pub use Rattle.ob_exec.specs.Commits.{ended_at, is_due}
 pub use Rattle.ob_exec.specs.Boarding.{engine_behind, FitShares, flight_kind, IsAboard, MayFlyBy}
 pub use Rattle.ob_exec.specs.InFlight.{early_of, IsMeant}
 pub use Rattle.ob_exec.specs.RanFlight.{asked_by, asked_since, EndedWithin, halt_of, in_flight, RanFlight}

@@ -8,7 +8,7 @@ use Rattle.ob_base.specs.declared.seen.Seen.{Seen}
 use Rattle.ob_base.specs.Limits.{buffered_blocks}
 use Rattle.ob_flat.specs.Scans.{MayScan}
 use Rattle.ob_flat.specs.declared.flat.Flat.{Flat}
-use Rattle.ob_inflight.specs.Aloft.{AreBoarded}
+use Rattle.ob_inflight.specs.AfterTurns.{AreBoarded}
 use Rattle.ob_inflight.specs.Kinds.{Kind, kind_of, moment}
 use Rattle.ob_mean.specs.Refusals.{tables_of}
 use Rattle.ob_mean.specs.Verdict.{ended}

@@ -1,4 +1,4 @@
--- What a statement does behind which tables are saved where they are to be, whatever it is answered.
+-- What a statement does after which tables are saved where they are to be, whatever it is answered.
 use Rattle.std.specs.Prelude.{◌≡◌, ◌≢◌, ◌⊎◌, ◌&&◌, ◌+◌, ◌-◌, ◌^◌, ◌<◌, ◌≤◌, ◌++◌, ⊤, ℕ, Bool, true, false, List, [], None, Some, Result, Ok, Err, IfOk, IfErr, OnOk, OnErr, MatchResult, length}
 use Rattle.ob_base.specs.Accesses.{makes, writes}
 use Rattle.ob_base.specs.Counts.{Rises}
@@ -7,7 +7,7 @@ use Rattle.ob_base.specs.declared.access.Access.{Access}
 use Rattle.ob_base.specs.declared.config.Public.{Public}
 use Rattle.ob_reopen.specs.declared.mark.Mark.{Mark}
 use Rattle.ob_base.specs.declared.seen.End.{End}
-use Rattle.ob_base.specs.declared.seen.End.TheVariants.{Static, Whole, AfterCount, Joined, Cut}
+use Rattle.ob_base.specs.declared.seen.End.TheVariants.{Static, Whole, AfterCount, Batched, Cut}
 use Rattle.ob_base.specs.declared.seen.Seen.{Seen}
 use Rattle.ob_base.specs.declared.skeleton.Skeleton.{Skeleton}
 use Rattle.ob_mean.specs.Lawful.{Lawful, height_at}
@@ -28,7 +28,7 @@ use Rattle.ob_store.specs.Runs.{Since}
 use Rattle.ob_store.specs.State.{StoreState}
 use Rattle.ob_vault.specs.Calls.{Seals}
 use Rattle.ob_vault.specs.State.{RevState, World}
-use Rattle.ob_vault.specs.Tied.{Calm}
+use Rattle.ob_vault.specs.Tied.{Untampered}
 use Rattle.ob_verdict.specs.Outcomes.{MayEmit, refusal_now}
 use Rattle.ob_verdict.specs.declared.outcome.Outcome.{Outcome}
 use Rattle.ob_tables.specs.Agreeing.{AreDraws, count_of, engine_keys, engine_start, has_ended, high_of, indexes_of, opened_from, public_of, replaced_of, seen_of, world_of}
@@ -47,14 +47,14 @@ abbrev pub is_whole : End → Bool
 is_whole Static = false
 is_whole Whole = true
 is_whole AfterCount = false
-is_whole Joined = false
+is_whole Batched = false
 is_whole (Cut n) = false
 
--- tables are saved behind one that changes them and came to its end
+-- tables are saved after one that changes them and came to its end
 abbrev pub is_saved_behind : Public → Skeleton → End → Bool
 is_saved_behind p s end = is_whole end && is_saved p s
 
--- nothing is answered of rows, and nothing but its end is seen
+-- nothing is answered of rows, and nothing except its end is seen
 pub record ShowsNothing (result : Result Outcome RunStop) (seen : Seen) : Type 0 where
   pub silent : IsSilent result
   pub plain : seen ≡ seen_to seen.end
@@ -82,10 +82,10 @@ ServedCause p outline (Err SinkFault) old new = RunCause (Err SinkFault) old new
 ServedCause p outline (Err NoMemory) old new = RunCause (Err NoMemory) old new
 ServedCause p outline (Err StoreFault) old new =
     (Rises old.store.faults new.store.faults ⊎ LacksNumber p outline old new)
-    × (Calm old → Calm new)
+    × (Untampered old → Untampered new)
 ServedCause p outline (Err StashFull) old new = RunCause (Err StashFull) old new
 ServedCause p outline (Err KeeperFault) old new =
-    (new.store.faults ≡ old.store.faults) × (Calm old → Calm new)
+    (new.store.faults ≡ old.store.faults) × (Untampered old → Untampered new)
 
 -- the keeper's faults rose exactly where that is the stop
 abbrev pub CountsKeeper : Result Outcome RunStop → (old new : KeeperState) → Type 0
@@ -109,7 +109,7 @@ StopsWhere p outline (Err StoreFault) =
 StopsWhere p outline (Err StashFull) = is_access p outline ≡ true
 StopsWhere p outline (Err KeeperFault) = is_saved p outline ≡ true
 
--- want of memory stops a statement as it does the engine's own share, or behind all of that, before its tables are saved
+-- want of memory stops a statement as it does the engine's own share, or after all of that, before its tables are saved
 abbrev pub AtSaving : Public → Skeleton → (rest : List Access) → Type 0
 AtSaving p outline rest =
     (is_saved p outline ≡ true) × (rest ≡ save_part p outline (left_by p outline))
@@ -123,7 +123,7 @@ pub record WantsMemory (p : Public) (stmt : Stmt) (seen : Seen) (s t : StoreStat
   pub place : AtMake done ⊎ AtResult p stmt seen rest ⊎ (AtEmission p stmt seen rest × Halts)
       ⊎ AtSaving p (skeleton stmt) rest
 
--- tables weren't saved: they aren't to be behind one like it, or it was refused or cut off before, or stopped
+-- tables weren't saved: they aren't to be after one like it, or it was refused or cut off before, or stopped
 abbrev pub WasNotSaved : Public → Skeleton → Result Outcome RunStop → End → Type 0
 WasNotSaved p outline (Ok outcome) end = is_saved_behind p outline end ≡ false
 WasNotSaved p outline (Err stop) end = ⊤
@@ -160,7 +160,7 @@ pub record RanWhole {R : Type 0} (state : R → RevState) (outline : Skeleton)
   pub stops : StopsWhere (public_of old) outline result
 
 -- ---- the keeper
--- they were, or that stopped it, behind the engine's own share, which was answered so and left this engine and this store
+-- they were, or that stopped it, after the engine's own share, which was answered so and left this engine and this store
 pub record WasSaved {R : Type 0} (state : R → RevState) (stmt : Stmt) (owed : List Stmt)
     (result : Result Outcome RunStop) (old : Engine R) (s : StoreState) (new : Engine R)
     (t : StoreState) (keeper_old keeper_new : KeeperState) : Type 0 where
@@ -195,7 +195,7 @@ KeeperBehind state stmt owed result old s new t keeper_old keeper_new =
     ⊎ WasSaved state stmt owed result old s new t keeper_old keeper_new
 
 -- ---- a statement was carried out
--- but for what it emits: with it those that are owed were served, in its accesses, and an emitter wanted memory only where
+-- except for what it emits: with it those that are owed were served, in its accesses, and an emitter wanted memory only where
 -- it halts
 pub record CarriedOut {R : Type 0} (state : R → RevState) (stmt : Stmt) (owed : List Stmt)
     (Halts : Type 0) (result : Result Outcome RunStop) (old : Engine R) (s : StoreState)
@@ -206,20 +206,20 @@ pub record CarriedOut {R : Type 0} (state : R → RevState) (stmt : Stmt) (owed 
   pub early : RefusedEarly (refusal_now (public_of old) (count_of old s) stmt) result (seen_of new)
   -- what is seen may be seen
   pub lawful : Lawful (public_of old) (count_of old s) stmt (seen_of new)
-  -- want of memory tells of no rows but those that are emitted
+  -- want of memory tells of no rows except those that are emitted
   pub memory : result ≡ Err NoMemory → WantsMemory (public_of old) stmt (seen_of new) s t Halts
   -- a stash is full only where an access read more rows than fit
   pub full : result ≡ Err StashFull → (d : Draws) → AreDraws old d → FillsStash (next_draw d)
       (public_of old) (count_of old s) stmt (indexes_of old) (seen_of new).leaf s.asked
       (world_of state new t)
-  -- an emitter stops nothing but a SELECT
+  -- an emitter stops nothing except a SELECT
   pub emits : result ≡ Err SinkFault → MayEmit stmt
   -- nothing comes to lie in clear
   pub seals : (good : ℕ → List ℕ → Bool) → AcceptsRows good (public_of old).pack
       → AcceptsRows good 1 → ((public_of old).save ≡ true → AcceptsClosings good)
       → Seals good (world_of state old s) (world_of state new t)
   pub means : Means state stmt owed result old s new t
-  -- what becomes of the tables behind it
+  -- what becomes of the tables after it
   pub keeper : KeeperBehind state stmt owed result old s new t keeper_old keeper_new
   pub counts : CountsKeeper result keeper_old keeper_new
 

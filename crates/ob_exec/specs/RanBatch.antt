@@ -1,4 +1,4 @@
--- What a batch of INSERTs does behind which tables are saved where they are to be, whatever they are answered.
+-- What a batch of INSERTs does after which tables are saved where they are to be, whatever they are answered.
 use Rattle.std.specs.Prelude.{◌≡◌, ⊤, List, Result, IfOk}
 use Rattle.ob_exec.specs.Ran.{CarriedOut, ShowsNothing}
 use Rattle.ob_mean.specs.Verdict.{Draws, Tables}
@@ -19,9 +19,9 @@ use Rattle.ob_verdict.specs.declared.outcome.Outcome.{Outcome}
 pub record RanBatch {R : Type 0} (state : R → RevState) (first : Stmt) (rest : List Stmt)
     (result : Result Outcome RunStop) (outcomes : List Outcome) (old : Engine R) (s : StoreState)
     (new : Engine R) (t : StoreState) (keeper_old keeper_new : KeeperState) : Type 0 where
-  -- of the first all is known that is of a statement by itself, but that the tables behind it are those behind all of them
+  -- of the first all is known that is of a statement by itself, but that the tables after it are those after all of them
   pub carried : CarriedOut state first rest ⊥ result old s new t keeper_old keeper_new
-  -- it is answered no rows, and nothing but its end is seen
+  -- it is answered no rows, and nothing except its end is seen
   pub shows : ShowsNothing result (seen_of new)
   -- each of the others is refused before any access, or answered for its row, or the store failed them all
   pub others : IfOk result (λ outcome.

@@ -20,10 +20,10 @@ use Rattle.ob_select.specs.Settings.{IsFree}
 use Rattle.ob_sql.specs.Skeleton.{skeleton}
 use Rattle.ob_sql.specs.declared.stmt.Stmt.{Stmt}
 use Rattle.ob_store.specs.Runs.{Later}
-use Rattle.ob_store.specs.State.{Lie, StoreState}
+use Rattle.ob_store.specs.State.{FalseRead, StoreState}
 use Rattle.ob_vault.specs.Calls.{Apart, EndsRead}
 use Rattle.ob_vault.specs.State.{RevState, World}
-use Rattle.ob_vault.specs.Tied.{Calm, EndsAt, ReadsIn}
+use Rattle.ob_vault.specs.Tied.{Untampered, EndsAt, ReadsIn}
 use Rattle.ob_verdict.specs.Outcomes.{Emits, Partly}
 use Rattle.ob_verdict.specs.declared.outcome.Outcome.{Outcome}
 use Rattle.ob_tables.specs.Agreeing.{Agrees, AreDraws, count_of, engine_keys, engine_start, has_ended, high_of, indexes_of, opened_from, public_of, replaced_of, seen_of, world_of}
@@ -45,7 +45,7 @@ abbrev pub stopped_after : {T : Type 0} → Result T RunStop → ℕ → Option 
 stopped_after (Ok x) k = None
 stopped_after (Err stop) k = Some k
 
--- how many of them were carried out: all, but for one that was refused as tampered
+-- how many of them were carried out: all, except for one that was refused as tampered
 abbrev pub carried_out : {T : Type 0} → Result T RunStop → ℕ → ℕ
 carried_out (Ok x) k = k
 carried_out (Err stop) k = done_of (is_refused stop) k
@@ -70,10 +70,10 @@ halted (Err e) = Err (halt_of e)
 -- why a flight stops: a session that ends as tampered ends with the read of that place, and a changed block was read only
 -- there, or its tag fits; neither the store's failures nor indexes or a keeper stop it
 abbrev pub FlightCause : {T : Type 0} → Result T RunStop → (old new : World) → Type 0
-FlightCause (Ok x) old new = Calm old → Calm new
-FlightCause (Err (Tampered q x)) old new = EndsRead q x new × (Calm old → Calm new ⊎ EndsAt q x new)
-FlightCause (Err SinkFault) old new = Calm old → Calm new
-FlightCause (Err NoMemory) old new = Calm old → Calm new
+FlightCause (Ok x) old new = Untampered old → Untampered new
+FlightCause (Err (Tampered q x)) old new = EndsRead q x new × (Untampered old → Untampered new ⊎ EndsAt q x new)
+FlightCause (Err SinkFault) old new = Untampered old → Untampered new
+FlightCause (Err NoMemory) old new = Untampered old → Untampered new
 FlightCause (Err StoreFault) old new = ⊥
 FlightCause (Err StashFull) old new = ⊥
 FlightCause (Err KeeperFault) old new = ⊥
@@ -83,14 +83,14 @@ abbrev pub cut_off : List Seen → ℕ
 cut_off seens = total (λ (seen : Seen). one_if (is_cut seen.end)) seens
 
 -- ---- what is asked, and what lasts
--- the session goes on: of what is public nothing but the next region has changed
+-- the session goes on: of what is public nothing except the next region has changed
 pub record FliesOn {R : Type 0} (state : R → RevState) (after : Public) (new : Engine R)
     (t : StoreState) : Type 0 where
   pub agrees : Agrees state new t
   pub public : public_of new ≡ after
   pub lives : has_ended new ≡ false
 
--- the engine and its store behind a flight, whatever the store answers
+-- the engine and its store after a flight, whatever the store answers
 pub record RanInTurns {R T : Type 0} (state : R → RevState) (words : ℕ → ℕ) (flown : List Served)
     (result : Result T RunStop) (old : Engine R) (s : StoreState) (new : Engine R)
     (t : StoreState) : Type 0 where
@@ -116,7 +116,7 @@ pub record RanInTurns {R T : Type 0} (state : R → RevState) (words : ℕ → �
       (λ stop. has_ended new ≡ true)
 
 -- ---- what is emitted
--- one ended so, as it does where nothing stops it: of it these events were taken and this was seen, behind n accesses of its
+-- one ended so, as it does where nothing stops it: of it these events were taken and this was seen, after n accesses of its
 -- own, which are all that it asks
 pub record EndsSo {R : Type 0} (state : R → RevState) (stmts : List Stmt) (stmt : Stmt)
     (seen : Seen) (n : ℕ) (events : List Event) (old : Engine R) (s : StoreState)
@@ -139,7 +139,7 @@ pub record IsParted {E : Type 0} (grew : E → E → List Event → Type 0)
   pub took : grew out_old between events
   pub parts : parted between out_new place outcome
 
--- a stop comes while the answer at this place is emitted, or behind it, where the emitter gave up
+-- a stop comes while the answer at this place is emitted, or after it, where the emitter gave up
 abbrev pub StopsClosing : {E : Type 0} → (grew cut : E → E → List Event → Type 0)
     → (parted : E → E → ℕ → Outcome → Type 0) → (Ends : Outcome → Type 0) → RunStop → (place : ℕ)
     → List Event → (out_old out_new : E) → Type 0
@@ -157,7 +157,7 @@ StopsClosing grew cut parted Ends stop place events out_old out_new =
 abbrev pub asked_by : Public → (words : ℕ → ℕ) → List Stmt → List Seen → (k : ℕ) → (i : ℕ) → ℕ
 asked_by p words stmts seens k i = own_asked p (served_as stmts seens) words k i
 
--- what comes behind k accesses of all: whose turn it is, and what that one asks
+-- what comes after k accesses of all: whose turn it is, and what that one asks
 abbrev pub asked_next : Public → (words : ℕ → ℕ) → List Stmt → List Seen → (k : ℕ)
     → Option (ℕ × Access)
 asked_next p words stmts seens k = slice_get (flight p (served_as stmts seens) words).log k
@@ -182,7 +182,7 @@ abbrev pub InEnd : Public → (words : ℕ → ℕ) → List Stmt → List Seen 
 InEnd p words stmts seens k place = EndedWithin p (served_as stmts seens) words k place
 
 -- ---- want of memory
--- just before a result that isn't padded is made for one of the statements that hasn't ended, behind so many accesses of its
+-- just before a result that isn't padded is made for one of the statements that hasn't ended, after so many accesses of its
 -- own; it is its turn, and no other's: the access that the flight asks next is its own
 pub record BeforeMake (p : Public) (stmts : List Stmt) (seens : List Seen) (asked : ℕ → ℕ)
     (asks : Option (ℕ × Access)) (ended : List Closed) : Type 0 where
@@ -196,7 +196,7 @@ pub record BeforeMake (p : Public) (stmts : List Stmt) (seens : List Seen) (aske
   pub going : slice_get ended place ≡ None
   pub makes : AtResult p stmt seen (drop (asked place) (whole_script p (skeleton stmt) seen))
 
--- in its turn the emitter's output ends within the events of the one at a place, behind n accesses of its own, or within how
+-- in its turn the emitter's output ends within the events of the one at a place, after n accesses of its own, or within how
 -- it was answered, as it does only where the emitter gave up
 abbrev pub AtEmitter : {E : Type 0} → (grew cut : E → E → List Event → Type 0)
     → (parted : E → E → ℕ → Outcome → Type 0) → (Ends : Outcome → Type 0)
@@ -246,7 +246,7 @@ pub record StopsFlight {R E : Type 0} (state : R → RevState)
       (asked_by (public_of old) words stmts seens (asked_since s t) (length ended))
       events between out_new
 
--- it comes in the turn behind so many: in those the first so many statements have ended and no other, and these accesses were
+-- it comes in the turn after so many: in those the first so many statements have ended and no other, and these accesses were
 -- asked in them, with that of this turn if it asked one
 pub record StopsInTurn (p : Public) (flown : List Served) (words : ℕ → ℕ) (k count : ℕ)
     : Type 0 where
@@ -260,14 +260,14 @@ pub record StopsInTurn (p : Public) (flown : List Served) (words : ℕ → ℕ) 
 -- ---- what is meant
 -- one that had ended by then was what it is once these k accesses were asked, in such a state of the store: a fault of it was
 -- one of the store's, and where no changed block was read by then it is answered and seen as it is meant, whatever is read
--- later; so it is where the first one that was read comes behind these
+-- later; so it is where the first one that was read comes after these
 pub record MeantThen {R : Type 0} (state : R → RevState) (stmts : List Stmt) (n k : ℕ)
     (stmt : Stmt) (seen : Seen) (one : Closed) (old : Engine R) (s t : StoreState) : Type 0 where
   pub mid : StoreState
   pub later : Later s mid
   pub few : length mid.asked ≤ length s.asked + k
-  pub lie : (lie : Lie) → mid.lie ≡ Some lie → t.lie ≡ Some lie
-  pub unread : s.lie ≡ None → (lie : Lie) → t.lie ≡ Some lie
+  pub lie : (lie : FalseRead) → mid.lie ≡ Some lie → t.lie ≡ Some lie
+  pub unread : s.lie ≡ None → (lie : FalseRead) → t.lie ≡ Some lie
       → length s.asked + k ≤ length lie.before → mid.lie ≡ None
   pub fails : IsTrue (is_fault one.outcome) → RisesBy 1 s.faults mid.faults
   pub told : (tables : Tables) (d : Draws) → ReadsTrue state old s mid tables
@@ -287,7 +287,7 @@ pub record AsksMeant {R : Type 0} (state : R → RevState) (words : ℕ → ℕ)
   pub mid : StoreState
   pub later : Later s mid
   pub few : length mid.asked ≤ length s.asked + k
-  pub lie : (lie : Lie) → mid.lie ≡ Some lie → t.lie ≡ Some lie
+  pub lie : (lie : FalseRead) → mid.lie ≡ Some lie → t.lie ≡ Some lie
   pub told : (tables : Tables) (d : Draws) → ReadsTrue state old s mid tables → mid.faults ≡ 0
       → take (k + 1) (merge (public_of old) (served_as stmts seens) words)
       ≡ take (k + 1) (merge (public_of old)
@@ -296,7 +296,7 @@ pub record AsksMeant {R : Type 0} (state : R → RevState) (words : ℕ → ℕ)
 -- a changed block is one that the words merge of these statements' accesses by their meaning, of those that the store cut
 -- off maybe of what they asked until then
 pub record BeginsMeant (p : Public) (m : ℕ) (d : Draws) (tables : Tables) (stmts : List Stmt)
-    (seens : List Seen) (words : ℕ → ℕ) (asked : List Access) (lie : Lie) : Type 0 where
+    (seens : List Seen) (words : ℕ → ℕ) (asked : List Access) (lie : FalseRead) : Type 0 where
   pub meant : List Seen
   pub long : length meant ≡ length stmts
   pub each : (i : ℕ) (stmt : Stmt) (seen shown : Seen) → slice_get stmts i ≡ Some stmt
@@ -324,7 +324,7 @@ pub record FlightMeans {R T : Type 0} (state : R → RevState) (words : ℕ → 
       → OnOk result (Represents state new t tables)
   pub honest : (tables : Tables) → ReadsTrue state old s t tables → IfErr result IsNotTampered
   -- the first changed block that is read is one that they read by their meaning
-  pub begun : (tables : Tables) (d : Draws) → ReadsTrue state old s s tables → (lie : Lie)
+  pub begun : (tables : Tables) (d : Draws) → ReadsTrue state old s s tables → (lie : FalseRead)
       → t.lie ≡ Some lie
       → BeginsMeant (public_of old) (count_of old s) d tables stmts seens words s.asked lie
   -- what had ended within some first accesses is meant, whatever is read later

@@ -1,4 +1,4 @@
--- What saving an engine's tables behind a statement asks for, and what it leaves in the store and with the keeper, whatever
+-- What saving an engine's tables after a statement asks for, and what it leaves in the store and with the keeper, whatever
 -- fails.
 use Rattle.std.specs.Prelude.{◌≡◌, ◌≢◌, ◌⊎◌, ◌≤◌, ◌<◌, ◌+◌, ◌^◌, ◌++◌, ℕ, Bool, true, false, IsTrue, List, Option, None, Some, Result, IfErr, OnOk, OnErr}
 use Rattle.ob_base.specs.Accesses.{drop_script, make_at}
@@ -21,7 +21,7 @@ use Rattle.ob_store.specs.Runs.{Began, Did, Later}
 use Rattle.ob_store.specs.State.{StoreState}
 use Rattle.ob_vault.specs.Calls.{Seals}
 use Rattle.ob_vault.specs.State.{RevState}
-use Rattle.ob_vault.specs.Tied.{Calm}
+use Rattle.ob_vault.specs.Tied.{Untampered}
 use Rattle.ob_tables.specs.Agreeing.{Agrees, count_of, draws_of, engine_keys, engine_start, has_ended, high_of, indexes_of, opened_from, public_of, replaced_of, seen_of, world_of}
 use Rattle.ob_tables.specs.Closing.{next_closing}
 use Rattle.ob_tables.specs.Saving.{RestsIn, Waits, save_script}
@@ -31,7 +31,7 @@ use Rattle.ob_tables.specs.declared.stop.RunStop.{RunStop}
 use Rattle.ob_tables.specs.declared.stop.RunStop.TheVariants.{KeeperFault, NoMemory, SinkFault, StashFull, StoreFault, Tampered}
 
 -- ---- what it asks for
--- an engine whose tables are saved behind each statement that changes them: what saves them can do so, its run has a salt for
+-- an engine whose tables are saved after each statement that changes them: what saves them can do so, its run has a salt for
 -- each region that it makes from now on, and the closing that it discards next is the one that is public
 pub record MaySave {R : Type 0} (Saves : Type 0) (e : Engine R) : Type 0 where
   pub saves : (public_of e).save ≡ true → Saves
@@ -126,7 +126,7 @@ pub record SavesTables {T R : Type 0} (state : R → RevState) (left : Option �
   pub high : high_of e ≤ high_of saved
   pub some : (t.asked ≡ s.asked → ⊥) → 1 ≤ high_of saved
   pub later : Later s t
-  pub calm : Calm (world_of state e s) → Calm (world_of state saved t)
+  pub calm : Untampered (world_of state e s) → Untampered (world_of state saved t)
   -- and nothing comes to lie in clear
   pub sealed : (good : ℕ → List ℕ → Bool) → AcceptsRows good (public_of e).pack
       → AcceptsClosings good → Seals good (world_of state e s) (world_of state saved t)

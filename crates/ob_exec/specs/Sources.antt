@@ -12,7 +12,7 @@ use Rattle.ob_room.specs.RoomState.{RoomState}
 use Rattle.ob_row.specs.Slots.{Slots}
 use Rattle.ob_script.specs.Script.{whole_script}
 use Rattle.ob_vault.specs.State.{World}
-use Rattle.ob_store.specs.State.{Lie}
+use Rattle.ob_store.specs.State.{FalseRead}
 use Rattle.ob_vault.specs.Tied.{ReadsIn, IsUnfit}
 use Rattle.ob_vault.specs.Calls.{Went}
 use Rattle.ob_flat.specs.declared.fault.OpErr.{OpErr}
@@ -116,10 +116,10 @@ pub record LacksRowMemory (p : Public) (select : SelectRows) (seen : Seen) (old 
 -- the first changed block that is read is one that the statement reads over the tables before
 abbrev pub ReadsMeant : Public → SelectRows → (old new : World) → Type 0
 ReadsMeant p select old new =
-    (s : SourceToEnd p old old) (lie : Lie) → new.store.lie ≡ Some lie
+    (s : SourceToEnd p old old) (lie : FalseRead) → new.store.lie ≡ Some lie
     → ReadsIn lie (old.store.asked ++ rows_script p select (selection_seen (selection p select) (slots_of p select s.tables)))
 
--- no region is left but those that there were
+-- no region is left except those that there were
 pub record LeavesNone (old new : World) : Type 0 where
   pub gone : (r : ℕ) → old.vault.next ≤ r → new.vault.revs.live r ≡ None
 
@@ -166,7 +166,7 @@ pub record HaltsRows {E : Type 0} (grew cut : E → E → List Event → Type 0)
       (is_of_access error) (length new.store.asked - length old.store.asked) seen
   pub begun : ReadsMeant p select old new
 
--- the rows of a source were selected and emitted, all but the number of them
+-- the rows of a source were selected and emitted, all except the number of them
 pub record SelectsRows {E : Type 0} (grew cut : E → E → List Event → Type 0) (faults : E → ℕ)
     (p : Public) (select : SelectRows) (result : Result Selected OpErr) (seen : Seen)
     (old new : World) (out_old out_new : E) : Type 0 where

@@ -3,7 +3,7 @@ ghost use Rattle.std.specs.Prelude.{◌≡◌, ◌≤◌, ◌+◌, ◌*◌, fals
 ghost use Rattle.std.specs.Result.{is_err};
 ghost use Rattle.ob_blocks.specs.Idle.{IsIdle};
 ghost use Rattle.ob_flat.specs.Passes.{SinkCause};
-ghost use Rattle.ob_inflight.specs.Flown.{HasFlown, StopsFlight};
+ghost use Rattle.ob_inflight.specs.FlightOutcome.{HasFlown, StopsFlight};
 ghost use Rattle.ob_inflight.specs.Kinds.{kind_of, moment, taker_of};
 ghost use Rattle.ob_vault.specs.Places.{at};
 ghost use Rattle.ob_tables.specs.Agreeing.{Agrees, count_of, has_ended, public_of};
@@ -16,7 +16,7 @@ use crate::boarding::{board_all, see_all, see_first};
 use ob_base::Seen;
 use ob_flat::OpErr;
 use ob_inflight::{FlightOut, Flyer, Turns, booked_by, fly};
-use ob_room::Room;
+use ob_room::RowBuffer;
 use ob_sql::Stmt;
 use ob_store::BlockStore;
 use ob_tables::{Engine, LATE, RunStop};
@@ -27,7 +27,7 @@ use ob_vault::{Revisions, Vault};
 fn fly_in_room<S: BlockStore, R: Revisions, F: Flyer, T: Turns, E: FlightOut>(
     store: &mut S,
     vault: &mut Vault<R>,
-    room: &mut Room,
+    room: &mut RowBuffer,
     flyers: &mut [F],
     share: u32,
     turns: &mut T,
@@ -63,7 +63,7 @@ fn fly_in_room<S: BlockStore, R: Revisions, F: Flyer, T: Turns, E: FlightOut>(
     flown
 }
 
-// Carries out SELECTs in turns but for what follows them.
+// Carries out SELECTs in turns except for what follows them.
 fn fly_all<S: BlockStore, R: Revisions, T: Turns, E: FlightOut>(
     engine: &mut Engine<R>,
     store: &mut S,
@@ -92,7 +92,7 @@ fn fly_all<S: BlockStore, R: Revisions, T: Turns, E: FlightOut>(
     let Ok(mut flights) = board_all(engine.alloc, late, &engine.public, share, stmts) else {
         return Err(OpErr::NoMemory);
     };
-    if store.room(booked_by(&flights)).is_err() {
+    if store.reserve(booked_by(&flights)).is_err() {
         return Err(OpErr::NoMemory);
     }
     let flown = fly_in_room(
@@ -130,7 +130,7 @@ fn stop_of(error: OpErr) -> RunStop
 ///
 /// Whatever the store does, its accesses are those that the words merge of what each asks by what is seen of it, or the
 /// first of them where one stops the flight, as in `run`; then the session has ended, and of those that hadn't ended
-/// `seens` has what was seen by then. One that the store fails is refused so, and doesn't stop the others; behind the
+/// `seens` has what was seen by then. One that the store fails is refused so, and doesn't stop the others; after the
 /// last one the regions that the flight made are given up, so that what a failed one left doesn't stay.
 pub fn run_flight<S: BlockStore, R: Revisions, T: Turns, E: FlightOut>(
     engine: &mut Engine<R>,

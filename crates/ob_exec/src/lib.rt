@@ -4,21 +4,21 @@
 //!
 //! What is promised of `run` is `Ran` of `specs/Ran`: its accesses follow from what is public, the statement without its
 //! literals and conditions, and what is seen of it, whatever the store answers; and where nobody changed a block, its
-//! answer is that of the meaning. Where tables are saved, what it is handed as `Behind` does so before the answer
-//! (`SavesTables` of `specs/Saving`), as `SavedBy` a keeper; else it is handed `Unsaved`. Of `run_batch` the same is promised
+//! answer is that of the meaning. Where tables are saved, what it is handed as `Commit` does so before the answer
+//! (`SavesTables` of `specs/Saving`), as `CommitTo` a keeper; else it is handed `NoCommit`. Of `run_batch` the same is promised
 //! by `RanBatch`: what the first of a batch does is what they all do. Of `run_flight` it is promised by `RanFlight`: the accesses
 //! are those of its statements, merged by the words that say whose turn it is, and each is answered as if it were alone.
 //!
 //! `running` begins each statement, by what is refused before any access, by the index that it accesses, and else
 //! by its kind: what makes or changes a table is a call of `ob_tables`. `rows` and `totals` are the SELECTs;
 //! `specs/Sources` says what is done of the rows of a source (`SelectsRows`), and `specs/Totalling` of totals.
-//! `gathering` says which INSERTs are served together, and `batching` serves them. `saving` saves the tables behind a
-//! statement, by what `behind` says becomes of them. `boarding` makes SELECTs ready for a flight, and `flying` carries it out.
+//! `gathering` says which INSERTs are served together, and `batching` serves them. `saving` saves the tables after a
+//! statement, by what `commit` says becomes of them. `boarding` makes SELECTs ready for a flight, and `flying` carries it out.
 #![tactic(auto)]
 
 mod batching;
-mod behind;
 mod boarding;
+mod commit;
 mod flying;
 mod gathering;
 mod rows;
@@ -28,7 +28,7 @@ mod totalling;
 mod totals;
 
 pub use batching::run_batch;
-pub use behind::{Behind, SavedBy, Unsaved};
+pub use commit::{Commit, CommitTo, NoCommit};
 pub use flying::run_flight;
 pub use gathering::{batch_most, begins_batch};
 pub use ob_tables::{

@@ -132,7 +132,7 @@ fn select_table<S: BlockStore, R: Revisions, E: Emit>(
     let cols = printed_places(select, columns, &[]);
     let blocks = u64::from(flat.capacity.div_ceil(u32::from(engine.public.pack)));
     let padded = padded_length(&engine.public, flat.capacity);
-    if store.room(blocks + padded).is_err() {
+    if store.reserve(blocks + padded).is_err() {
         return Err(OpErr::NoMemory);
     }
     let query = Query {
@@ -198,7 +198,7 @@ fn select_join<S: BlockStore, R: Revisions, E: Emit>(
     let rcol = right_place(on, equals, columns, others) as u8;
     let accesses = join_accesses(&engine.public, &left, &right);
     let padded = padded_length(&engine.public, joined_slots(&engine.public, &left, &right));
-    if store.room(accesses + padded).is_err() {
+    if store.reserve(accesses + padded).is_err() {
         return Err(OpErr::NoMemory);
     }
     let joined = match ob_join::join(

@@ -1,4 +1,4 @@
-//! A statement, by its kind, and the tables behind it.
+//! A statement, by its kind, and the tables after it.
 ghost use Rattle.std.specs.Prelude.{◌≡◌, None, Ok, OnOk, true, false};
 ghost use Rattle.ob_exec.specs.Ran.{Ran, ShowsNothing};
 ghost use Rattle.ob_base.specs.declared.refusal.Refusal.TheVariants.{StoreFault};
@@ -10,7 +10,7 @@ ghost use Rattle.ob_tables.specs.Agreeing.{Agrees, has_ended, public_of, replace
 ghost use Rattle.ob_tables.specs.Serving.{Serves};
 ghost use Rattle.ob_verdict.specs.declared.outcome.Outcome.TheVariants.{Refused};
 
-use crate::behind::Behind;
+use crate::commit::Commit;
 use crate::rows::select_rows;
 use crate::saving::{begin, finish};
 use crate::totals::select_totals;
@@ -22,7 +22,7 @@ use ob_tables::{Engine, LATE, RunStop};
 use ob_vault::Revisions;
 use ob_verdict::Outcome;
 
-// Carries out a statement but for what follows it.
+// Carries out a statement except for what follows it.
 fn serve<S: BlockStore, R: Revisions, E: Emit>(
     engine: &mut Engine<R>,
     store: &mut S,
@@ -71,12 +71,12 @@ fn serve<S: BlockStore, R: Revisions, E: Emit>(
 /// says, for what the tables hold, or because the store failed at some access, by `StoreFault`: then the regions
 /// that the statement made are given up. Where it is refused for what it says, nothing was asked of the store.
 ///
-/// Where tables are saved, `behind` saves them once a statement that changes tables came to its end, also where it is
+/// Where tables are saved, `commit` saves them once a statement that changes tables came to its end, also where it is
 /// refused for what they hold, and only then it is answered.
 ///
 /// `Tampered` names a block that is not what was written there last, or that no table's rows make;
 /// `SinkFault` says that the emitter failed; and `NoMemory` comes before the first access, where a
-/// region is made, behind a change and before its tables are saved, or from the emitter while rows are
+/// region is made, after a change and before its tables are saved, or from the emitter while rows are
 /// emitted, so that it tells of no other rows. What was emitted until then is a first part of the
 /// answer. `StoreFault` says that the store failed in an access of an index, or while tables were
 /// saved, or that there is no number left to save them under; `KeeperFault` that the keeper failed
@@ -87,26 +87,26 @@ fn serve<S: BlockStore, R: Revisions, E: Emit>(
 /// the statement without its literals and conditions, and what is seen of it; and no row comes to
 /// lie there in clear. Of a SELECT of rows neither their number nor a plan is seen where results are
 /// padded; one of more rows than that is refused as `PadPassed`.
-pub fn run<S: BlockStore, R: Revisions, B: Behind<S>, E: Emit>(
+pub fn run<S: BlockStore, R: Revisions, B: Commit<S>, E: Emit>(
     engine: &mut Engine<R>,
     store: &mut S,
-    behind: &mut B,
+    commit: &mut B,
     stmt: &Stmt,
     out: &mut E,
 ) -> Result<Outcome, RunStop>
     requires agrees { Agrees R.state engine.old (S.state store.old) }
     requires lives { has_ended engine.old ≡ false }
     requires settled { replaced_of engine.old ≡ None }
-    requires saves { MaySave (B.Saves behind.old) engine.old }
+    requires saves { MaySave (B.Saves commit.old) engine.old }
     ensures ran { Ran R.state E.grew E.cut E.faults stmt.now result
         engine.old (S.state store.old) engine.new (S.state store.new) out.old out.new
-        (B.state behind.old) (B.state behind.new) }
-    ensures saves { OnOk result (MaySave (B.Saves behind.new) engine.new) }
-    ensures same { B.name behind.new ≡ B.name behind.old }
+        (B.state commit.old) (B.state commit.new) }
+    ensures saves { OnOk result (MaySave (B.Saves commit.new) engine.new) }
+    ensures same { B.name commit.new ≡ B.name commit.old }
     ensures given_up { result ≡ Ok (Refused StoreFault) → GaveUpFrom
         (public_of engine.old).next_region (S.given_up store.new) (S.state store.new) }
 {
     let begun = begin(engine, store, stmt);
     let answer = serve(engine, store, stmt, out);
-    finish(engine, store, behind, begun, answer)
+    finish(engine, store, commit, begun, answer)
 }

@@ -1,7 +1,7 @@
-//! The tables behind a statement that was carried out: they are saved where they are to be.
+//! The tables after a statement that was carried out: they are saved where they are to be.
 ghost use Rattle.std.specs.Prelude.{◌≡◌, ◌&&◌, ◌≤◌, Ok, length, true, false};
 ghost use Rattle.ob_base.specs.declared.refusal.Refusal.TheVariants.{StoreFault};
-ghost use Rattle.ob_exec.specs.Behind.{IsBegun, SavesBehind, ended_at, is_due};
+ghost use Rattle.ob_exec.specs.Commits.{IsBegun, CommitsIfDue, ended_at, is_due};
 ghost use Rattle.ob_exec.specs.Ran.{is_whole};
 ghost use Rattle.ob_exec.specs.Saving.{MayBeSaved};
 ghost use Rattle.ob_script.specs.Script.{changes_tables, is_saved};
@@ -11,7 +11,7 @@ ghost use Rattle.ob_exec.specs.GivenUp.{GaveUpFrom};
 ghost use Rattle.ob_vault.specs.State.{HasNoneFrom};
 ghost use Rattle.ob_verdict.specs.declared.outcome.Outcome.TheVariants.{Refused};
 
-use crate::behind::Behind;
+use crate::commit::Commit;
 use ob_base::{End, Public, Refusal};
 use ob_flat::OpErr;
 use ob_sql::Stmt;
@@ -42,20 +42,20 @@ fn changes_tables(stmt: &Stmt) -> bool
     }
 }
 
-// Whether tables are to be saved behind a statement.
+// Whether tables are to be saved after a statement.
 fn is_saved(public: &Public, stmt: &Stmt) -> bool
     ensures { result ≡ is_saved public.now (skeleton stmt.now) }
 {
     changes_tables(stmt) && public.save
 }
 
-// Whether they are behind one that ended so.
+// Whether they are after one that ended so.
 fn is_saved_behind(saved: bool, end: End) -> bool
     ensures { result ≡ (is_whole end && saved) }
 {
     match end {
         End::Whole => saved,
-        End::Static | End::AfterCount | End::Joined | End::Cut(_) => false,
+        End::Static | End::AfterCount | End::Batched | End::Cut(_) => false,
     }
 }
 
@@ -74,7 +74,7 @@ pub(crate) fn begin<S: BlockStore, R: Revisions>(
     }
 }
 
-// Ends the session in a statement of which nothing is counted, behind so many accesses: as want of memory in a pass does.
+// Ends the session in a statement of which nothing is counted, after so many accesses: as want of memory in a pass does.
 fn end_at<R: Revisions>(engine: &mut Engine<R>, accesses: u64)
     ensures { engine.new ≡ ended_at accesses engine.old }
 {
@@ -100,11 +100,11 @@ fn leave_forgotten<S: BlockStore, R: Revisions>(
 }
 
 // Ends a statement that was carried out: what the vault forgot of one that the store failed is given up, and the
-// tables behind it are saved if they are due to be. Then it is answered.
-pub(crate) fn finish<S: BlockStore, R: Revisions, B: Behind<S>>(
+// tables after it are saved if they are due to be. Then it is answered.
+pub(crate) fn finish<S: BlockStore, R: Revisions, B: Commit<S>>(
     engine: &mut Engine<R>,
     store: &mut S,
-    behind: &mut B,
+    commit: &mut B,
     begun: Begun,
     answer: Result<Outcome, RunStop>,
 ) -> Result<Outcome, RunStop>
@@ -115,13 +115,13 @@ pub(crate) fn finish<S: BlockStore, R: Revisions, B: Behind<S>>(
     requires wants { is_due begun.saved answer (seen_of engine.old).end ≡ true
         → (public_of engine.old).save ≡ true }
     requires saves { is_due begun.saved answer (seen_of engine.old).end ≡ true
-        → B.Saves behind.old }
+        → B.Saves commit.old }
     requires counted { begun.accesses ≤ length (S.state store.old).asked }
-    ensures behind { SavesBehind R.state (is_due begun.saved answer (seen_of engine.old).end)
+    ensures commits { CommitsIfDue R.state (is_due begun.saved answer (seen_of engine.old).end)
         begun answer result engine.old (S.state store.old) engine.new (S.state store.new)
-        (B.state behind.old) (B.state behind.new) }
-    ensures stays { B.Saves behind.old → B.Saves behind.new }
-    ensures same { B.name behind.new ≡ B.name behind.old }
+        (B.state commit.old) (B.state commit.new) }
+    ensures stays { B.Saves commit.old → B.Saves commit.new }
+    ensures same { B.name commit.new ≡ B.name commit.old }
     ensures given_up { is_due begun.saved answer (seen_of engine.old).end ≡ false
         → result ≡ Ok (Refused StoreFault)
         → GaveUpFrom begun.next (S.given_up store.new) (S.state store.new) }
@@ -134,7 +134,7 @@ pub(crate) fn finish<S: BlockStore, R: Revisions, B: Behind<S>>(
     if !is_saved_behind(begun.saved, engine.seen().end) {
         return Ok(outcome);
     }
-    match behind.save(engine, store, begun.left) {
+    match commit.save(engine, store, begun.left) {
         Ok(()) => Ok(outcome),
         Err(stop) => {
             let accesses = store.count() - begun.accesses;

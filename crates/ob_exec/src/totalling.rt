@@ -13,7 +13,7 @@ use ob_flat::{Flat, OpErr};
 use ob_group::{Grouped, agg_label, aggregate, group};
 use ob_names::place_of;
 use ob_order::Buckets;
-use ob_room::Room;
+use ob_room::RowBuffer;
 use ob_row::{Agg, Pred};
 use ob_sql::SelectTotals;
 use ob_stages::{aggs_at, items_at};
@@ -59,7 +59,7 @@ fn emit_row<E: Emit>(out: &mut E, labels: &[Label], cells: &[Shown]) -> Result<(
 fn answer_aggregates<S: BlockStore, R: Revisions, E: Emit>(
     store: &mut S,
     vault: &mut Vault<R>,
-    room: &mut Room,
+    room: &mut RowBuffer,
     flat: &Flat,
     pred: &Pred,
     select: &SelectTotals,
@@ -107,7 +107,7 @@ pub(crate) fn buckets_for(
 fn answer_groups<S: BlockStore, R: Revisions, E: Emit>(
     store: &mut S,
     vault: &mut Vault<R>,
-    room: &mut Room,
+    room: &mut RowBuffer,
     buckets: &mut Buckets,
     flat: &Flat,
     pred: &Pred,
@@ -155,7 +155,7 @@ fn answer_groups<S: BlockStore, R: Revisions, E: Emit>(
 pub(crate) fn answer_totals<S: BlockStore, R: Revisions, E: Emit>(
     store: &mut S,
     vault: &mut Vault<R>,
-    room: &mut Room,
+    room: &mut RowBuffer,
     buckets: &mut Buckets,
     flat: &Flat,
     pred: &Pred,

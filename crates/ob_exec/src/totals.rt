@@ -38,7 +38,7 @@ pub(crate) fn select_totals<S: BlockStore, R: Revisions, E: Emit>(
     };
     let before = store.count();
     let blocks = flat.capacity.div_ceil(u32::from(engine.public.pack));
-    if store.room(u64::from(blocks)).is_err() {
+    if store.reserve(u64::from(blocks)).is_err() {
         return engine.cut(0, OpErr::NoMemory);
     }
     match answer_totals(

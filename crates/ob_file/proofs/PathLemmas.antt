@@ -5,7 +5,7 @@ use Rattle.std.proofs.lemmas.List.Sums.{suffix_len_is}
 use Rattle.std.specs.List.{suffix_len}
 use Rattle.ob_file.specs.Paths.{folder_by, folder_part, is_slash, last_part}
 
--- the place behind it
+-- the place after it
 up_to : (path : List ℕ) (n : ℕ) → n ≤ length path → ((k : ℕ) → n ≤ k → k < length path → slice_index path k ≢ 47)
     → (0 < n → slice_index path (n - 1) ≡ 47) → length path - suffix_len (λ c. not (is_slash c)) path ≡ n
 up_to path n fits none is =

@@ -3,7 +3,7 @@ use Rattle.std.specs.Prelude.{◌≡◌, ◌⊎◌, ℕ, nat_lt, ◌==◌, ◌||
 use Rattle.std.specs.Borrow.{Bor}
 use Rattle.std.specs.List.{concat}
 
--- the parts of a path, one behind the other
+-- the parts of a path, one after the other
 abbrev pub whole : List (Bor (List ℕ)) → List ℕ
 whole parts = concat (map (λ (part : Bor (List ℕ)). part.now) parts)
 

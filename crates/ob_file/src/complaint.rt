@@ -79,7 +79,7 @@ impl Complaint {
         self.reason = reason;
     }
 
-    /// Writes it in one line, behind the name of a program.
+    /// Writes it in one line, after the name of a program.
     pub fn write<W: Write>(&self, out: &mut W, program: &str) -> Result<(), Failed> {
         put_plain(out, program.as_bytes())?;
         put(out, b": ")?;

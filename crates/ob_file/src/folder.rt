@@ -51,7 +51,7 @@ fn settle_file<R: Files>(files: &R, path: &str) -> io::Result<()> {
     open_file(files, path)?.sync_all()
 }
 
-/// The folder of a file, with the slash behind it, and its name there.
+/// The folder of a file, with the slash after it, and its name there.
 pub fn split_path(path: &str) -> (&str, &str)
     ensures folder { result.0.now ≡ folder_part path.now }
     ensures name { result.1.now ≡ last_part path.now }
@@ -110,7 +110,7 @@ impl Names {
         }
     }
 
-    // The same, and more names, each with a zero byte behind it.
+    // The same, and more names, each with a zero byte after it.
     fn and_all(self, names: &[u8], first: &str) -> Names {
         let mut found = self;
         for name in names.split(|byte| *byte == 0) {
@@ -187,7 +187,7 @@ impl<'a, R: Files> RegionFiles<'a, R> {
         }
     }
 
-    // Waits for those of these names, each with a zero byte behind it, that are files of regions.
+    // Waits for those of these names, each with a zero byte after it, that are files of regions.
     fn settle_named(&mut self, names: &[u8]) -> io::Result<()> {
         for name in names.split(|byte| *byte == 0) {
             if let Some(region) = region_in(name, split_path(self.name.as_str()).1) {

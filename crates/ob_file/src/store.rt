@@ -135,7 +135,7 @@ impl<'a, R: Files> FileStore<'a, R> {
         }
     }
 
-    // Removes the files of those regions among these names, each with a zero byte behind it, that aren't live.
+    // Removes the files of those regions among these names, each with a zero byte after it, that aren't live.
     fn sweep_named(&self, names: &[u8]) {
         for name in names.split(|byte| *byte == 0) {
             if let Some(region) = region_in(name, split_path(self.name.as_str()).1) {
@@ -214,8 +214,8 @@ where
       lied = λ lie is. absurd (cc is);
     } };
 
-    fn room(&mut self, n: u64) -> Result<(), NoMemory> {
-        self.log.room(n)
+    fn reserve(&mut self, n: u64) -> Result<(), NoMemory> {
+        self.log.reserve(n)
     }
 
     fn make(&mut self, region: u64, blocks: u32, len: u32) -> Result<(), StoreErr> {

@@ -72,7 +72,7 @@ tally_all p n i places t (slot ∷ slots) fits is =
     ∙ ap (λ (l : List ℕ). places ++ l) (ap (λ (k : ℕ). (if b then i ∷ [] else []) ++ places_from k (is_selected (is_true p)) slots) (sym next) ∙ sym (place_first b i (places_from (suc i) (is_selected (is_true p)) slots))))
     rest
 
--- all slots of a table, and the empty ones behind them
+-- all slots of a table, and the empty ones after them
 pub tally_table : (p : Condition) (n m : ℕ) (t : Tally) (slots : Slots) → length slots ≡ n → IsTally [] t → IsTally (selected (is_true p) slots) (scanned (step p n) 0 t (up_to m slots))
 tally_table p n m t slots size is =
     let all = tally_all p n 0 [] t slots (omega (arith, size)) is in

@@ -19,7 +19,7 @@ below_all {i} below same = subst (λ (k : ℕ). i < k) same below
 pub no_less : (n : ℕ) → n < 0 → ⊥
 no_less n below = omega arith
 
--- the loop ends behind the last one
+-- the loop ends after the last one
 pub at_end : {i m n : ℕ} → i ≤ m → m ≤ i → m ≡ n → i ≡ n
 at_end most least same = omega arith
 
@@ -120,7 +120,7 @@ row_next first z = omega arith
 pub row_first : (first : ℕ) → first ≡ first + 0
 row_first first = omega arith
 
--- behind the last one
+-- after the last one
 pub most_all : {i m n : ℕ} → i ≤ m → m ≤ n → i ≤ n
 most_all few most = omega arith
 
@@ -130,7 +130,7 @@ same_most {n = n} same most = subst (λ (k : ℕ). k ≤ n) (sym same) most
 pub at_most_itself : (n : ℕ) → n ≤ n
 at_most_itself n = omega arith
 
--- a row behind another
+-- a row after another
 pub passed : {i j : ℕ} → i + 1 ≤ j → i ≤ j
 passed past = omega arith
 

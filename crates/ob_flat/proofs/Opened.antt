@@ -1,4 +1,4 @@
--- The rows that a pass takes from the room: those of a block, and behind them the buffered ones.
+-- The rows that a pass takes from the room: those of a block, and after them the buffered ones.
 use Rattle.std.proofs.Common.{◌≡◌, ◌≤◌, ◌+◌, ◌*◌, ◌-◌, ℕ, List, ◌++◌, length, replicate, take, drop, max, sym, ◌∙◌, ap, subst, arith}
 use Rattle.std.proofs.lemmas.List.{length-replicate, drop-replicate, get_or-replicate}
 use Rattle.ob_base.specs.Limits.{buffered_blocks}

@@ -45,7 +45,7 @@ blocks_few pack capacity some = grind arith
 pub blocks_end : (pack capacity : ℕ) → 1 ≤ pack → blocks_for pack capacity * pack < capacity + pack
 blocks_end pack capacity some = (div_ceil_times capacity pack (omega arith)).1
 
--- the place that is in turn behind so many, which may be the last
+-- the place that is in turn after so many, which may be the last
 pub not_last : (i n : ℕ) → i < n → (if i == n then 0 else i) ≡ i
 not_last i n below = grind (arith, nat_tests)
 

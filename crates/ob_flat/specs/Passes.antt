@@ -6,7 +6,7 @@ use Rattle.ob_store.specs.Runs.{Began}
 use Rattle.ob_vault.specs.declared.fault.VaultErr.{VaultErr}
 use Rattle.ob_vault.specs.declared.fault.VaultErr.TheVariants as VaultErrs
 use Rattle.ob_vault.specs.State.{World}
-use Rattle.ob_vault.specs.Tied.{Calm, EndsAt}
+use Rattle.ob_vault.specs.Tied.{Untampered, EndsAt}
 use Rattle.ob_vault.specs.Calls.{Lasts, EndsRead}
 use Rattle.ob_flat.specs.declared.fault.OpErr.{OpErr}
 use Rattle.ob_flat.specs.declared.fault.OpErr.TheVariants.{Failed, Tampered, Sink, NoMemory}
@@ -19,10 +19,10 @@ pass_error VaultErrs.NoMemory = NoMemory
 
 -- each error's cause: `Failed` comes only where the store's faults rose, and no other where they did
 abbrev pub PassCause : OpErr → World → World → Type 0
-PassCause Failed old new = Rises old.store.faults new.store.faults × (Calm old → Calm new)
-PassCause (Tampered q x) old new = (new.store.faults ≡ old.store.faults) × EndsRead q x new × (Calm old → Calm new ⊎ EndsAt q x new)
-PassCause Sink old new = (new.store.faults ≡ old.store.faults) × (Calm old → Calm new)
-PassCause NoMemory old new = (new.store.faults ≡ old.store.faults) × (Calm old → Calm new)
+PassCause Failed old new = Rises old.store.faults new.store.faults × (Untampered old → Untampered new)
+PassCause (Tampered q x) old new = (new.store.faults ≡ old.store.faults) × EndsRead q x new × (Untampered old → Untampered new ⊎ EndsAt q x new)
+PassCause Sink old new = (new.store.faults ≡ old.store.faults) × (Untampered old → Untampered new)
+PassCause NoMemory old new = (new.store.faults ≡ old.store.faults) × (Untampered old → Untampered new)
 
 -- an error of an access, which was not carried out
 abbrev pub is_of_access : OpErr → Bool

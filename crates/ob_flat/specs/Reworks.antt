@@ -22,7 +22,7 @@ pub record MayRework (pack : ℕ) (flat : Flat) (place : ℕ) (w : World) : Type
   pub order : Order
   pub turn : IsInTurn order pack flat place w
 
--- the place behind one, or the first
+-- the place after one, or the first
 abbrev pub place_behind : ℕ → Flat → ℕ → ℕ
 place_behind pack flat place = if place + 1 == blocks_of pack flat then 0 else place + 1
 

@@ -13,7 +13,7 @@ use crate::fault::OpErr;
 use crate::flat::Flat;
 use crate::scan::scan_blocks;
 use crate::visit::Visit;
-use ob_room::{ClearRow, Room};
+use ob_room::{ClearRow, RowBuffer};
 use ob_row::{Malformed, Pred, holds};
 use ob_store::BlockStore;
 use ob_vault::{Revisions, Vault};
@@ -26,7 +26,7 @@ pub struct Counted {
     pub consecutive: bool,
 }
 
-// The selected slots so far: their number, the index behind the last, and whether they are consecutive.
+// The selected slots so far: their number, the index after the last, and whether they are consecutive.
 #[derive(Clone, Copy, Debug, PartialEq, Eq)]
 pub(crate) struct Tally {
     k: u32,
@@ -101,7 +101,7 @@ fn count_blocks<S: BlockStore, R: Revisions>(
 pub fn count<S: BlockStore, R: Revisions>(
     store: &mut S,
     vault: &mut Vault<R>,
-    room: &mut Room,
+    room: &mut RowBuffer,
     flat: &Flat,
     pred: &Pred,
 ) -> Result<Counted, OpErr>

@@ -18,7 +18,7 @@ ghost use Rattle.ob_flat.specs.Creates.{MakesTable, FillsRegion, CreatesRegion, 
 use crate::fault::OpErr;
 use crate::flat::Flat;
 use ob_base::Schema;
-use ob_room::{ClearRow, Room};
+use ob_room::{ClearRow, RowBuffer};
 use ob_row::width;
 use ob_store::BlockStore;
 use ob_vault::{Order, Region, Revisions, Vault, VaultErr};
@@ -129,7 +129,7 @@ pub fn create_blocks<S: BlockStore, R: Revisions>(
 pub fn create<S: BlockStore, R: Revisions>(
     store: &mut S,
     vault: &mut Vault<R>,
-    room: &mut Room,
+    room: &mut RowBuffer,
     schema: &Schema,
     capacity: u32,
 ) -> Result<Flat, OpErr>

@@ -9,7 +9,7 @@ use crate::fault::Fault;
 use crate::shown::{put_asked, put_seen, put_text};
 use crate::turns::InTurn;
 use ob_base::{End, Public, Seen, Source};
-use ob_exec::{Unsaved, run, run_flight};
+use ob_exec::{NoCommit, run, run_flight};
 use ob_mean::is_index;
 use ob_parse::parse;
 use ob_print::stop_line;
@@ -40,7 +40,7 @@ fn serve<S: BlockStore, R: Revisions>(
     requires session { IsSession R.state engine.old (S.state store.old) }
     ensures session { OnOk result (IsSession R.state engine.new (S.state store.new)) }
 {
-    match run(engine, store, &mut Unsaved, stmt, out) {
+    match run(engine, store, &mut NoCommit, stmt, out) {
         Ok(_) => Ok(()),
         Err(_) => Err(Fault::Unfilled),
     }

@@ -27,7 +27,7 @@ fn put_end(out: &mut String, end: End) -> Result<(), AllocError> {
         End::Static => out.push_str("static"),
         End::Whole => out.push_str("whole"),
         End::AfterCount => out.push_str("after the count"),
-        End::Joined => out.push_str("joined"),
+        End::Batched => out.push_str("joined"),
         End::Cut(n) => write!(out, "cut at {n}"),
     }
 }

@@ -5,7 +5,7 @@ use Rattle.std.proofs.lemmas.Option.{slice_get_within, get_or_from_slice_get}
 use Rattle.std.proofs.Math.ListN.{drop_of_length-le}
 use Rattle.ob_gen.specs.Generated.{digit_of, lines_left, next_number, row_line, row_lines, statement_lines, table_line}
 
--- behind the table's line
+-- after the table's line
 rows_begin : (x n : ℕ) → row_lines x 1 n ++ statement_lines n ≡ lines_left x n 2
 rows_begin x n =
     let all : n - 0 ≡ n = omega arith in
@@ -34,7 +34,7 @@ left_row x n (suc (suc k)) two within =
     let next : suc (suc k) + 1 ≡ suc (suc (suc k)) = omega arith in
     rw (id, next) (row_next x n k (omega arith))
 
--- a statement behind the rows
+-- a statement after the rows
 statement_next : (x n k : ℕ) (line : List ℕ) → n ≤ k → slice_get (statement_lines n) (k - n) ≡ Some line
     → lines_left x n (suc (suc k)) ≡ line ∷ lines_left x n (suc (suc (suc k)))
 unfolding row_lines

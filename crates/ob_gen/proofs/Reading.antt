@@ -4,7 +4,7 @@ use Rattle.std.proofs.Math.ListN.{drop_of_length-le}
 use Rattle.std.specs.List.{concat}
 use Rattle.ob_io.proofs.Memory.{moved}
 
--- of a line from a place on, and of the lines behind it
+-- of a line from a place on, and of the lines after it
 abbrev pub rest_of : (line : List ℕ) (at : ℕ) (left : List (List ℕ)) → List ℕ
 rest_of line at left = drop at line ++ concat left
 

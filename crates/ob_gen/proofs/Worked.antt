@@ -3,7 +3,7 @@ use Rattle.std.proofs.Common.{◌≡◌, [], ◌∷◌, ◌++◌, codes, refl}
 use Rattle.std.specs.Fmt.{digits}
 use Rattle.ob_gen.specs.Generated.{digit_of, generated, next_number, row_lines}
 
--- the sequence behind 0 begins so, and its digits are 7, 4 and 7
+-- the sequence after 0 begins so, and its digits are 7, 4 and 7
 first_number : next_number 0 ≡ 1442695040888963407
 first_number = refl
 

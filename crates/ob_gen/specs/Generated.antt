@@ -16,7 +16,7 @@ digit_of x = (x / (2 ^ 33)) % 10
 abbrev pub row_line : (id v : ℕ) → List ℕ
 row_line id v = codes "INSERT INTO g VALUES (" ++ (decimal id ++ (codes ", " ++ (decimal v ++ codes ");\n")))
 
--- the lines of so many rows, from this id on: each takes the next number of the sequence, behind x, and holds its digit
+-- the lines of so many rows, from this id on: each takes the next number of the sequence, after x, and holds its digit
 unfoldable pub row_lines : (x id rows : ℕ) → List (List ℕ)
 row_lines x id zero = []
 row_lines x id (suc rows) = row_line id (digit_of (next_number x)) ∷ row_lines (next_number x) (id + 1) rows
@@ -30,7 +30,7 @@ secret_line = replicate 64 48 ++ codes "\n"
 abbrev pub table_line : ℕ → List ℕ
 table_line n = codes "CREATE TABLE g (id INT PRIMARY KEY, v INT) CAPACITY " ++ (decimal n ++ codes ";\n")
 
--- the statements behind the rows
+-- the statements after the rows
 abbrev pub statement_lines : ℕ → List (List ℕ)
 statement_lines n =
     codes "SELECT * FROM g WHERE v = 3;\n"
@@ -49,14 +49,14 @@ statement_lines n =
 
 -- ---- the text
 
--- its lines, where the sequence begins behind x, and the table has n rows
+-- its lines, where the sequence begins after x, and the table has n rows
 abbrev pub lines : (x n : ℕ) → List (List ℕ)
 lines x n = secret_line ∷ table_line n ∷ (row_lines x 1 n ++ statement_lines n)
 
 unfoldable pub generated : (x n : ℕ) → List ℕ
 generated x n = concat (lines x n)
 
--- the lines that are left behind the first so many of them, where x is the last number of the sequence that was taken
+-- the lines that are left after the first so many of them, where x is the last number of the sequence that was taken
 abbrev pub lines_left : (x n passed : ℕ) → List (List ℕ)
 lines_left x n zero = lines x n
 lines_left x n (suc zero) = table_line n ∷ (row_lines x 1 n ++ statement_lines n)

@@ -35,7 +35,7 @@ impl Model for Generated {
 }
 
 impl Generated {
-    /// The text whose sequence begins behind `x`, and whose table has `n` rows.
+    /// The text whose sequence begins after `x`, and whose table has `n` rows.
     pub fn new(x: u64, n: u32) -> Generated
         ensures { result ≡ record { left = generated x n; gave = 0 } }
     {

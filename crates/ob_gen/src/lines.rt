@@ -78,7 +78,7 @@ fn row_line(id: u32, v: u8) -> Line
     line
 }
 
-// A line of the statements behind the rows, from 0.
+// A line of the statements after the rows, from 0.
 fn statement_line(place: u64, rows: u32) -> Line
     requires { place < 12 }
     ensures { slice_get (statement_lines rows) place ≡ Some result }
@@ -104,7 +104,7 @@ fn statement_line(place: u64, rows: u32) -> Line
 }
 
 impl Lines {
-    /// All lines, where the sequence begins behind `x`, and the table has so many rows.
+    /// All lines, where the sequence begins after `x`, and the table has so many rows.
     pub fn new(x: u64, rows: u32) -> Lines
         ensures { lines_left result.number result.rows result.passed ≡ lines x rows }
     {

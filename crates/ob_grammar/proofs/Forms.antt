@@ -57,7 +57,7 @@ module _ {T U V : Type 0} (A : U → List T → Type 0) (B : U → V → List T 
   pub good_before : Good (Bind A B) F (bind a b)
   good_before = good_bind A B Fa F a b good_a good_b (λ u v y t z h f. leads_on Fa y t z (leads u v y h) (ends t f)) last
 
--- A, then B, each of whose words begins with what may stand behind A
+-- A, then B, each of whose words begins with what may stand after A
 module _ {T U V : Type 0} (A : U → List T → Type 0) (B : U → V → List T → Type 0) (Fa F : T → Type 0) (a : Reader T U) (b : U → Reader T V)
     (good_a : Good A Fa a) (good_b : (u : U) → Good (B u) F (b u)) (first : (u : U) (v : V) (w : List T) → B u v w → Begins Fa w) (last : (t : T) × F t) where
   pub good_then : Good (Bind A B) F (bind a b)
@@ -121,7 +121,7 @@ pub leads_perhaps : {T V : Type 0} (k : T → Option (Unit {0})) (A : V → List
 leads_perhaps k A F holds v w (inl h) = inr (begins_key k (λ _. Bind A (λ v. Empty (Some v))) F holds v w h)
 leads_perhaps k A F holds v w (inr h) = inl h.1
 
--- what may stand behind a word may be fewer tokens
+-- what may stand after a word may be fewer tokens
 module _ {T V : Type 0} (L : V → List T → Type 0) (F G : T → Type 0) (r : Reader T V) (good : Good L F r) (so : (t : T) → G t → F t) where
   pub good_under : Good L G r
   good_under = record {

@@ -7,14 +7,14 @@ abbrev pub Reader : Type 0 → Type 0 → Type 0
 Reader T V = List T → Result (V × List T) (List T)
 
 -- what a reader's answer at ts says: what it read spells its value, or begins a word, and the answer
--- depends on no token behind the next one
+-- depends on no token after the next one
 abbrev pub Outcome : {T V : Type 0} → (V → List T → Type 0) → Reader T V → List T → Result (V × List T) (List T) → Type 0
 Outcome {T} {V} L r ts (Ok p) = (front : List T) × (ts ≡ front ++ p.1) × L p.0 front
     × ((t : T) (after z : List T) → p.1 ≡ t ∷ after → r (front ++ t ∷ z) ≡ Ok (p.0, t ∷ z))
 Outcome {T} {V} L r ts (Err rest) = (front : List T) × (ts ≡ front ++ rest) × ((tail : List T) × (v : V) × L v (front ++ tail))
     × ((t : T) (after z : List T) → rest ≡ t ∷ after → r (front ++ t ∷ z) ≡ Err (t ∷ z))
 
--- F holds of the tokens that may stand behind a word
+-- F holds of the tokens that may stand after a word
 pub record Good {T V : Type 0} (L : V → List T → Type 0) (F : T → Type 0) (r : Reader T V) : Type 0 where
   pub complete : (v : V) (w : List T) (t : T) (u : List T) → L v w → F t → r (w ++ t ∷ u) ≡ Ok (v, t ∷ u)
   pub whole : (v : V) (w : List T) → L v w → r w ≡ Ok (v, [])
@@ -167,7 +167,7 @@ module _ {T V : Type 0} (A B : V → List T → Type 0) (F : T → Type 0) (p : 
     go (inl e) = ap (choose p a b) e ∙ ap b (sym e) ∙ good_b.whole v w bx
     go (inr (c, s, pc, e)) = ap (choose p a b) e ∙ otherwise c s pc ∙ ap b (sym e) ∙ good_b.whole v w bx
 
-  -- the same choice is made before any other tokens behind the next one
+  -- the same choice is made before any other tokens after the next one
   same_a : (ts front rest : List T) (t : T) (after z : List T) → ((c : T) (s : List T) → ts ≡ c ∷ s → p c ≡ true)
       → ts ≡ front ++ rest → rest ≡ t ∷ after → choose p a b (front ++ t ∷ z) ≡ a (front ++ t ∷ z)
   same_a ts [] rest t after z test e h = chosen t z (test t after (e ∙ h))
@@ -241,7 +241,7 @@ module _ {T V : Type 0} (A : V → V → List T → Type 0) (Fa F : T → Type 0
     go : Starts p true x → 1 ≤ length x
     go (c, d, pc, e) = omega (arith, ap length e)
 
-  -- what stands behind a word of A
+  -- what stands after a word of A
   pub behind : (s v : V) (xs : List T) (t : T) (u : List T) → Iter A s v xs → F t → Begins Fa (xs ++ t ∷ u)
   behind _ _ _ t u (stop s) f = (t, u, ends t f, refl)
   behind _ _ _ t u (turn s m v x xs ax ms) f = go (first_a s m x ax) where
@@ -317,7 +317,7 @@ module _ {T V : Type 0} (A : V → V → List T → Type 0) (Fa F : T → Type 0
     go t after z (suc n) k le = again_at s m fa fb mid rest t after z n ax local h k
         ∙ again t after z n k (omega (arith, long s m fa ax, length-append (fa ++ fb) (t ∷ z), length-append fa fb, length-append fb (t ∷ z)))
 
-  -- a token that passes stands first, whatever stands behind the next token
+  -- a token that passes stands first, whatever stands after the next token
   first_step : (s : V) (ts front rest : List T) (t : T) (after z : List T) (n : ℕ) → Starts p true ts → ts ≡ front ++ rest → rest ≡ t ∷ after
       → length (front ++ t ∷ z) ≤ n → (m : ℕ) × (iter p a n s (front ++ t ∷ z) ≡ (a s (front ++ t ∷ z) >>= λ q. iter p a m q.0 q.1))
   first_step s ts [] rest t after z zero st e k le = absurd (omega arith)

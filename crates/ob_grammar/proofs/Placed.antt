@@ -92,7 +92,7 @@ module _ {T V : Type 0} (L : V → List T → Type 0) (F : T → Type 0) (r : Re
     go : Outcome L r ts (Err rest) → length rest ≤ length ts
     go (front, e, begins, local) = omega (arith, ap length e, length-append front rest)
 
--- what a good reader leaves is what stands behind the tokens that it took
+-- what a good reader leaves is what stands after the tokens that it took
 dropped : {T : Type 0} (ts front rest : List T) → ts ≡ front ++ rest → drop (length ts - length rest) ts ≡ rest
 dropped ts front rest e =
     let here : length ts - length rest ≡ length front = omega (arith, ap length e, length-append front rest) in

@@ -56,7 +56,7 @@ module _ (p : Row → Bool) (key : ℕ) (items : List Item) where
   none_more gs zero = refl
   none_more gs (suc n) = none_more gs n
 
-  -- empty slots behind the others are nothing
+  -- empty slots after the others are nothing
   groups-up_to : (n : ℕ) (slots : Slots) → groups_of p key items (up_to n slots) ≡ groups_of p key items slots
   groups-up_to n slots = fold-append (put_slot p key (aggs_of items)) [] slots (none_of (n - length slots)) ∙ none_more (groups_of p key items slots) (n - length slots)
 

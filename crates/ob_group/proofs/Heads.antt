@@ -1,4 +1,4 @@
--- The first row of each group, with one row more behind the others.
+-- The first row of each group, with one row more after the others.
 use Rattle.std.proofs.Common.{◌≡◌, ℕ, Bool, true, false, List, [], ◌∷◌, ◌++◌, refl, sym, ◌∙◌, ap, subst, cond}
 use Rattle.std.specs.Prelude.{filter, Option, Some, None, not, ◌||◌, if◌then◌else◌}
 use Rattle.std.specs.List.{list_any}

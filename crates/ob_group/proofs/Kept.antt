@@ -135,7 +135,7 @@ wide_clear v w n less = record {
   wide = λ j below. omega (arith, less, length-replicate {A = ℕ} w 0, ap length (get_or-replicate n j (clear w) (clear 0) (omega (arith, below, length-replicate n (clear w)))));
 }
 
--- ---- the rows that are opened: those of a block, and behind them the groups
+-- ---- the rows that are opened: those of a block, and after them the groups
 module _ (pack k : ℕ) {all : List (List ℕ)} (s : RoomState) (value : all ≡ replicate (pack + k * pack) (clear s.width)) where
   pub front_clear : {front : List (List ℕ)} → front ≡ take pack all → front ≡ replicate pack (clear s.width)
   front_clear is = is ∙ ap (take pack) value ∙ take_replicate pack (pack + k * pack) (clear s.width) (omega arith)

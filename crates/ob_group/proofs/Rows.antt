@@ -29,7 +29,7 @@ module _ {E A T R : Type 0} (grew cut : E → E → List Event → Type 0) (show
   one_halted (Ok x) leads = tt
   one_halted (Err e) leads = record { events = Row cells ∷ []; ends = leads; told = λ s. ([], ap (λ (l : List Shown). Row l ∷ []) (told s)) }
 
--- rows behind their header
+-- rows after their header
 pub headed : {E T : Type 0} {grew cut : E → E → List Event → Type 0} {faults : E → ℕ} {kind : Kind} {items : List Item} {n : ℕ} {rows : List (List ℕ)} {a b c : E} (head : List Event)
     → Leads grew grew a b head → faults b ≡ faults a → (r : Result T EmitErr)
     → EmitsGroups grew cut faults kind items n rows [] r b c → EmitsGroups grew cut faults kind items n rows head r a c
@@ -47,7 +47,7 @@ headed {T = T} {grew = grew} {cut = cut} {faults = faults} {items = items} {a = 
   cause = subst (λ (k : ℕ). EmitCause {T = T} (Err e) k (faults c)) same is.cause;
 }
 
--- one row behind its header, or the header alone
+-- one row after its header, or the header alone
 module _ {E T : Type 0} (grew cut : E → E → List Event → Type 0) (faults : E → ℕ) (head : List Event) (cells : List Shown) where
   pub row_emitted : (a b c : E) → Leads grew grew a b head → faults b ≡ faults a → (r : Result T EmitErr) → OnOk r (Leads grew grew b c (Row cells ∷ [])) → OnErr r (Leads grew cut b c (Row cells ∷ []))
       → EmitCause r (faults b) (faults c) → EmitsAll grew cut faults (head ++ Row cells ∷ []) r a c

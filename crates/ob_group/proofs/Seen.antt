@@ -25,7 +25,7 @@ module _ (p : Row → Bool) (aggs : List Agg) where
   sums_none ts zero = refl
   sums_none ts (suc n) = sums_none ts n
 
-  -- and no more behind them
+  -- and no more after them
   pub sums_table : (m : ℕ) (ts : Sums) (slots : Slots) → sums_with p aggs ts (up_to m slots) ≡ grown_by aggs ts (filter p (rows slots))
   sums_table m ts slots =
       fold-append (seen_slot p aggs) ts slots (none_of (m - length slots))

@@ -24,7 +24,7 @@ use Rattle.ob_group.proofs.Seen.{sums_table, take_sums}
 use Rattle.ob_group.proofs.Grown.{totals_are}
 
 module _ (p : Row → Bool) (aggs : List Agg) where
-  -- those of all slots, with empty ones behind them, are the aggregates
+  -- those of all slots, with empty ones after them, are the aggregates
   pub sums_whole : (m : ℕ) (slots : Slots) → map total_shown (sums_of p aggs (up_to m slots)) ≡ totals aggs (filter p (rows_in slots))
   sums_whole m slots = ap (map total_shown) (sums_table p aggs m (starts aggs) slots) ∙ totals_are aggs (filter p (rows_in slots))
 

@@ -55,7 +55,7 @@ module _ (key : ℕ) (aggs : List Agg) where
     group-new : eq x x ≡ true → filter (eq x) xs ≡ [] → group_at (xs ++ x ∷ []) x ≡ group_by key aggs x
     group-new own none = group-same x own ∙ ap (λ (l : List Row). (cell_at x key, grown_all aggs x (grown_by aggs (starts aggs) l))) none
 
-    -- no group behind the one of its key has it
+    -- no group after the one of its key has it
     groups-other : (h : Row) (hs : List Row) → eq h x ≡ true → list_any (eq h) hs ≡ false → map (group_at (xs ++ x ∷ [])) hs ≡ map (group_at xs) hs
     groups-other h [] is none = refl
     groups-other h (g ∷ hs) is none =

@@ -31,7 +31,7 @@ group_with aggs row g = (g.0, grown_all aggs row g.1)
 abbrev pub group_by : ℕ → List Agg → Row → Group
 group_by key aggs row = (cell_at row key, grown_all aggs row (starts aggs))
 
--- the row goes to the group with its key, or is a new one behind the others
+-- the row goes to the group with its key, or is a new one after the others
 abbrev pub put_row : ℕ → List Agg → Row → List Group → List Group
 put_row key aggs row [] = group_by key aggs row ∷ []
 put_row key aggs row (g ∷ gs) = if options_eq g.0 (cell_at row key) then group_with aggs row g ∷ gs else g ∷ put_row key aggs row gs

@@ -35,7 +35,7 @@ pub record HoldsKey (kind : Kind) (key : Cell) (row : List ℕ) : Type 0 where
   pub behind : List ℕ
   pub is : row ≡ cell_bytes kind key ++ behind
 
--- and those behind it these totals
+-- and those after it these totals
 pub record HoldsGroup (kind : Kind) (m count : ℕ) (group : Group) (row : List ℕ) : Type 0 where
   pub key : Cell
   pub same : group.0 ≡ Some key

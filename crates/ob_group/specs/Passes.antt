@@ -132,7 +132,7 @@ pub record EmitsGroup {E T : Type 0} (grew cut : E → E → List Event → Type
       out_old out_new)
   pub cause : EmitCause result (faults out_old) (faults out_new)
 
--- the rows of n groups were, behind this header
+-- the rows of n groups were, after this header
 pub record EmitsGroups {E T : Type 0} (grew cut : E → E → List Event → Type 0) (faults : E → ℕ)
     (kind : Kind) (items : List Item) (n : ℕ) (rows : List (List ℕ)) (head : List Event)
     (result : Result T EmitErr) (out_old out_new : E) : Type 0 where

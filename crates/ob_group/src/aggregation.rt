@@ -15,7 +15,7 @@ ghost use Rattle.ob_group.specs.Steps.{AggregatesAt};
 use crate::accs::Accs;
 use crate::totals::{add_row, starts};
 use ob_flat::{Flat, OpErr, Visit, scan_block, scan_blocks};
-use ob_room::{ClearRow, Room};
+use ob_room::{ClearRow, RowBuffer};
 use ob_row::{Agg, Malformed, Pred, holds};
 use ob_store::BlockStore;
 use ob_vault::{Revisions, Vault};
@@ -165,7 +165,7 @@ fn aggregate_blocks<S: BlockStore, R: Revisions>(
 pub fn aggregate<S: BlockStore, R: Revisions>(
     store: &mut S,
     vault: &mut Vault<R>,
-    room: &mut Room,
+    room: &mut RowBuffer,
     flat: &Flat,
     pred: &Pred,
     aggs: &[Agg],

@@ -15,7 +15,7 @@ use crate::reading::group_blocks;
 use ob_base::{Emit, EmitErr};
 use ob_flat::{Flat, OpErr};
 use ob_order::Buckets;
-use ob_room::{ClearRow, Room};
+use ob_room::{ClearRow, RowBuffer};
 use ob_row::{Item, Pred};
 use ob_store::BlockStore;
 use ob_vault::{Revisions, Vault};
@@ -88,7 +88,7 @@ fn group_table<S: BlockStore, R: Revisions, E: Emit>(
 pub fn group<S: BlockStore, R: Revisions, E: Emit>(
     store: &mut S,
     vault: &mut Vault<R>,
-    room: &mut Room,
+    room: &mut RowBuffer,
     buckets: &mut Buckets,
     flat: &Flat,
     pred: &Pred,

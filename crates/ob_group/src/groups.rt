@@ -137,7 +137,7 @@ fn start(
     add(schema, row, kind, items, group);
 }
 
-// Puts a row to the group with its key, or to a new one behind the n that there are, and answers how many
+// Puts a row to the group with its key, or to a new one after the n that there are, and answers how many
 // there are then: one more than the rows, where there are more. The groups are in the buckets of their keys,
 // and a new one is put into its own.
 pub(crate) fn put_row(

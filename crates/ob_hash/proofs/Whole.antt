@@ -17,7 +17,7 @@ use Rattle.ob_hash.specs.Hashing.{IsHashed, FitsBuckets, Layout, layout_at, buck
 use Rattle.ob_hash.proofs.Alike.{holds_alike}
 use Rattle.ob_hash.proofs.Sizes.{blocks_whole, result_blocks, result_few}
 
--- nothing is left behind the slots
+-- nothing is left after the slots
 whole_same : (pack capacity : ℕ) (slots : Slots) → length slots ≡ capacity → blocks_for pack capacity * pack ≡ capacity → whole_blocks pack capacity slots ≡ slots
 whole_same pack capacity slots size whole =
     let none : blocks_for pack capacity * pack - length slots ≡ 0 = omega (arith, size, whole) in

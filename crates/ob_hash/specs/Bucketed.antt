@@ -41,7 +41,7 @@ buckets_of k n p slots m = filled k n (replicate k []) (selected p (take m slots
 abbrev pub unplaced_of : (k n : ℕ) → RowTest → Slots → ℕ → Option ℕ
 unplaced_of k n p slots m = unplaced k n (selected p (take m slots))
 
--- the first place with no bucket, with place i behind the others
+-- the first place with no bucket, with place i after the others
 abbrev pub first_of : Option ℕ → Bool → ℕ → Option ℕ
 first_of (Some j) waits i = Some j
 first_of None true i = Some i

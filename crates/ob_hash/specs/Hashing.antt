@@ -90,7 +90,7 @@ pub record AreBuffers (l : Layout) (rows block : List (List ℕ)) : Type 0 where
 abbrev pub block_part : ℕ → ℕ → ℕ → ℕ → List Access
 block_part g depth bucket y = copy_at g g (bucket * depth + y)
 
--- both buckets of slot j behind the first ones
+-- both buckets of slot j after the first ones
 abbrev pub slot_part : ℕ → ℕ → ℕ → ℕ → ℕ → List Access
 slot_part g k depth first j = hash_slot g k depth (first + j)
 

@@ -16,7 +16,7 @@ use ob_row::{Malformed, Pred, holds};
 use ob_store::BlockStore;
 use ob_vault::{Revisions, Vault};
 
-// The first slot whose row found no bucket, where the one of index `i`, behind them, may be another.
+// The first slot whose row found no bucket, where the one of index `i`, after them, may be another.
 fn first_of(unplaced: Option<u32>, waits: bool, i: u32) -> Option<u32>
     ensures { result ≡ first_of unplaced waits i }
 {

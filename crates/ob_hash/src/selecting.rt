@@ -16,7 +16,7 @@ ghost use Rattle.ob_hash.specs.Selecting.{Selects};
 use crate::buckets::Hashed;
 use crate::hashing::hash_blocks;
 use ob_flat::{Flat, OpErr, create_blocks};
-use ob_room::{ClearRow, Room};
+use ob_room::{ClearRow, RowBuffer};
 use ob_row::Pred;
 use ob_store::BlockStore;
 use ob_vault::{Order, Revisions, Vault};
@@ -90,7 +90,7 @@ fn select_rows<S: BlockStore, R: Revisions>(
 pub fn select<S: BlockStore, R: Revisions>(
     store: &mut S,
     vault: &mut Vault<R>,
-    room: &mut Room,
+    room: &mut RowBuffer,
     flat: &Flat,
     pred: &Pred,
     k: u32,

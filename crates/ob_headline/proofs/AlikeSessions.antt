@@ -104,7 +104,7 @@ module _ (d : Draws) (p : Public) (m : ℕ) (ts : Tables) (t : Session) (alike :
       subst (λ (us : Tables). AreAlike us (settle t.draws t.public t.asked t.tables stmt)) (sym settles_by)
       (order_is_nothing t.draws t.public t.asked ts t.tables stmt alike.tables).after
 
-  -- they are alike behind a statement
+  -- they are alike after a statement
   pub settled_alike : TablesAlike (settle d p m ts stmt) (after Alone t stmt)
   settled_alike = record {
     tables = tables_by;
@@ -266,14 +266,14 @@ uncut (CutAfter n) s stmt one none told = let failed = ap outcome_failures told.
 uncut With s stmt one none told = tt
 uncut CutWith s stmt one none told = let failed = ap outcome_failures told.outcome in absurd (omega (arith, failed, none))
 
--- behind these texts a session is alike, and where more texts are answered behind it, they are so behind these
+-- after these texts a session is alike, and where more texts are answered after it, they are so after these
 pub record GoesOn (s : Session) (spelt : List Spelt) (broken : Broken) (answers : List Answer) (seen : List Served) (t : Session) : Type 0 where
   pub alike : SessionsAlike (after_all s spelt broken) (after_all t spelt (hows_of spelt broken))
   pub along : (more : List Spelt) (later : Broken) → after_all t (spelt ++ more) (hows_of spelt broken ++ later) ≡ after_all (after_all t spelt (hows_of spelt broken)) more later
   pub on : (f : Ending) (more : List Spelt) (later : Broken) (others : List Answer) (behind : List Served) → AnswersAlone f (after_all t spelt (hows_of spelt broken)) more later others behind []
       → AnswersAlone f t (spelt ++ more) (hows_of spelt broken ++ later) (answers ++ others) (seen ++ behind) []
 
--- these texts, each of which was answered and none by the store's fault, are answered alike, and so are more behind them
+-- these texts, each of which was answered and none by the store's fault, are answered alike, and so are more after them
 pub answers_on : (Leaves : Public → Stmt → Seen → Type 0) (g : Option Gathering) (e : Ending) (spelt : List Spelt) (s t : Session) (broken : Broken) (answers : List Answer) (seen : List Served) (part : List ℕ)
     → SessionsAlike s t → length answers ≡ length spelt → failures answers ≡ 0 → AnswersAlone e s spelt broken answers seen part → SeenAlone Leaves s.public s.asked g spelt answers seen
     → s.asked + length (trace s.public seen) < 2 ^ 63 → (after_all t spelt (hows_of spelt broken)).asked < 2 ^ 63 → GoesOn s spelt broken answers seen t

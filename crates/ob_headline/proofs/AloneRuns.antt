@@ -1,5 +1,5 @@
 -- What is promised of a run of which no statement flies, in terms of statements that are each served alone.
-use Rattle.ob_headline.proofs.Words.{Access, Accesses, AnswersFrom, ap, AreEntries, AreSeen, arith, Base, Bool, Broken, drawing, Ending, FliesNone, FromEach, Headline, inl, inr, keys_by, KeySet, length, List, most_of, None, Outside, Public, Report, seats_of, Seen, Served, session_at, SomeRun, Stmt, StoreState, Story, subst, trace, trace_of, words_of, ℕ, [], ◌++◌, ◌+◌, ◌-◌, ◌∙◌, ◌∷◌, ◌≡◌, ◌≤◌}
+use Rattle.ob_headline.proofs.Words.{Access, Accesses, AnswersFrom, ap, AreEntries, AreSeen, arith, Base, Bool, Broken, drawing, Ending, FliesNone, FromEach, Headline, inl, inr, keys_by, KeySet, length, List, most_of, None, Outside, Public, Report, positions_of, Seen, Served, session_at, SomeRun, Stmt, StoreState, Story, subst, trace, trace_of, words_of, ℕ, [], ◌++◌, ◌+◌, ◌-◌, ◌∙◌, ◌∷◌, ◌≡◌, ◌≤◌}
 use Rattle.ob_headline.proofs.BaseLemmas.{from_each}
 use Rattle.ob_headline.proofs.ServedAlone.{AnswersAlone, AreOf, SeenAlone, as_alone, entered_alone, seen_alone, seen_of, traced_alone}
 use Rattle.ob_headline.specs.Accesses.{StopsWithin}
@@ -38,7 +38,7 @@ module _ (base : Base) (one : FliesNone base) (keys : KeySet) (ending : Ending) 
   pub accesses_alone : RanAlone base keys ending story old new
   accesses_alone = record {
     lawful = seen_alone Leaves (words_of base) 0 base.public base.count None story.spelt story.answers all
-        (subst (λ (es : List Entry). AreSeen Leaves (seats_of base es) None story.spelt story.answers all) entries accesses.lawful);
+        (subst (λ (es : List Entry). AreSeen Leaves (positions_of base es) None story.spelt story.answers all) entries accesses.lawful);
     asked = accesses.asked ∙ ap (λ (l : List Access). base.before ++ l) (traced_alone base story one accesses.entered);
     traced = traced_alone base story one accesses.entered;
     entries = entries;
@@ -48,15 +48,15 @@ module _ (base : Base) (one : FliesNone base) (keys : KeySet) (ending : Ending) 
   pub are_of : AreOf story.spelt all
   are_of = seen_of Leaves base.public base.count None story.spelt story.answers all accesses_alone.lawful
 
-  pub meant_alone : FromEach base (λ s. (broken : Broken) × AnswersFrom ending (seats_of base story.entries) (drawing keys s) story.spelt broken story.answers all story.part)
+  pub meant_alone : FromEach base (λ s. (broken : Broken) × AnswersFrom ending (positions_of base story.entries) (drawing keys s) story.spelt broken story.answers all story.part)
       → FromEach base (λ s. (broken : Broken) × AnswersAlone ending (drawing keys s) story.spelt broken story.answers all story.part)
   meant_alone =
-      from_each base (λ s. (broken : Broken) × AnswersFrom ending (seats_of base story.entries) (drawing keys s) story.spelt broken story.answers all story.part)
+      from_each base (λ s. (broken : Broken) × AnswersFrom ending (positions_of base story.entries) (drawing keys s) story.spelt broken story.answers all story.part)
       (λ s. (broken : Broken) × AnswersAlone ending (drawing keys s) story.spelt broken story.answers all story.part)
       (λ tables meant. (
         meant.0,
         as_alone (words_of base) 0 ending (drawing keys (session_at base tables)) story.spelt meant.0 story.answers all story.part are_of
-            (subst (λ (es : List Entry). AnswersFrom ending (seats_of base es) (drawing keys (session_at base tables)) story.spelt meant.0 story.answers all story.part) entries meant.1),
+            (subst (λ (es : List Entry). AnswersFrom ending (positions_of base es) (drawing keys (session_at base tables)) story.spelt meant.0 story.answers all story.part) entries meant.1),
       ))
 
 -- the same of a headline, and of a run

@@ -1,8 +1,8 @@
 -- Runs whose tables are kept answer as one run does over all their texts.
-use Rattle.ob_headline.proofs.Words.{Access, after_all, Answer, AnswersFrom, ap, AreAlike, AreFlat, arith, BadKey, Base, BeginsFrom, Begun, Bool, Broken, Closed, CloseErr, Closing, closing_named, Config, drawing, Ending, EndsBehind, Err, failures, false, FliesNone, FlightSettings, flying, Fresh, headings, if◌then◌else◌, inl, inr, InUse, is_used_up, IsTrue, KeeperFault, KeeperState, KeptEnding, KeptRegion, keys_of, KeySet, length, List, Mark, mark_made, mark_of, MatchBool, nat_lt, nat_tests, None, Ok, Opened, Option, option_map_or, OtherPack, Outside, Plain, plain, Public, public_with, Ran, refl, Report, Result, RunKept, Saved, seats_of, Served, Session, session_after, session_at, Some, Spelt, start, status_of, StoreState, Story, subst, sym, Tables, Text, trace, trace_of, true, Usage, words_of, ℕ, [], ⊤, ◌++◌, ◌+◌, ◌<◌, ◌^◌, ◌∙◌, ◌∷◌, ◌≡◌, ◌≤◌}
+use Rattle.ob_headline.proofs.Words.{Access, after_all, Answer, AnswersFrom, ap, AreAlike, AreFlat, arith, BadKey, Base, BeginsFrom, Begun, Bool, Broken, Closed, CloseErr, Closing, closing_named, Config, drawing, Ending, EndsBehind, Err, failures, false, FliesNone, FlightSettings, flying, Fresh, headings, if◌then◌else◌, inl, inr, InUse, is_used_up, IsTrue, KeeperFault, KeeperState, KeptEnding, KeptRegion, keys_of, KeySet, length, List, Mark, mark_made, mark_of, MatchBool, nat_lt, nat_tests, None, Ok, Opened, Option, option_map_or, OtherPack, Outside, Plain, plain, Public, public_with, Ran, refl, Report, Result, RunKept, Saved, positions_of, Served, Session, session_after, session_at, Some, Spelt, start, status_of, StoreState, Story, subst, sym, Tables, Text, trace, trace_of, true, Usage, words_of, ℕ, [], ⊤, ◌++◌, ◌+◌, ◌<◌, ◌^◌, ◌∙◌, ◌∷◌, ◌≡◌, ◌≤◌}
 use Rattle.ob_base.specs.declared.refusal.Stop.TheVariants as Stops
 use Rattle.ob_reopen.proofs.ByNameAlike.{named_alike}
-use Rattle.ob_reopen.specs.Resting.{Rests, by_name}
+use Rattle.ob_reopen.specs.Resting.{IsAtRest, by_name}
 use Rattle.ob_headline.proofs.AlikeSessions.{AreAlone, GoesOn, SessionsAlike, after_alone, alone_both, answers_alone, answers_on, are_alone, grows_on, hows_of, keeps_plain}
 use Rattle.ob_headline.proofs.BeginsAlike.{Begins, begins_anew, begins_reopened}
 use Rattle.ob_headline.proofs.InStep.{InStep}
@@ -20,10 +20,10 @@ use Rattle.ob_headline.specs.Words.{any_refused, keys_in}
 use Rattle.ob_headline.proofs.AloneRuns.{RanAlone, are_of, headline_alone, meant_alone}
 use Rattle.ob_headline.proofs.BaseLemmas.{from_flying, unflown}
 use Rattle.ob_headline.proofs.ServedAlone.{AnswersAlone, AreOf, as_alone, behind_all, from_alone, of_both}
-use Rattle.ob_headline.specs.Flights.{seats_alone}
+use Rattle.ob_headline.specs.Flights.{positions_alone}
 use Rattle.ob_script.specs.Flights.{Entry, drawn}
 use Rattle.ob_headline.specs.declared.ending.KeptEnding.TheVariants.{OtherKey, Saved as SavedBefore, NoMark, NotClosed as LeftOpen, StoreFault}
-use Rattle.ob_store.specs.State.{Lie}
+use Rattle.ob_store.specs.State.{FalseRead}
 use Rattle.ob_verdict.proofs.AlikeTables.{alike_chained, alike_turned}
 
 -- ---- a run that came to its end
@@ -80,7 +80,7 @@ closed_well (Ok mark) whole ending f0 f1 k0 k1 refused ends well = (mark, refl)
 closed_well (Err error) whole ending f0 f1 k0 k1 refused ends well = absurd (closing_stops error refused (sym ends.0 ∙ well))
 
 -- a lie stays
-pub unlied : (old new : Option Lie) → ((lie : Lie) → old ≡ Some lie → new ≡ Some lie) → new ≡ None → old ≡ None
+pub unlied : (old new : Option FalseRead) → ((lie : FalseRead) → old ≡ Some lie → new ≡ Some lie) → new ≡ None → old ≡ None
 unlied None new stays none = refl
 unlied (Some lie) new stays none = absurd (cc (stays lie refl, none))
 
@@ -106,7 +106,7 @@ WaitsAt secret InUse kept ts = ⊤
 WaitsAt secret Begun kept ts = ⊤
 WaitsAt secret (Saved region blocks number pack salt check) kept ts = ⊤
 WaitsAt secret (Closed region blocks number pack) kept ts =
-    (tables : Tables) × Rests (keys_of secret) (closing_named region blocks number pack) kept tables × AreAlike tables ts
+    (tables : Tables) × IsAtRest (keys_of secret) (closing_named region blocks number pack) kept tables × AreAlike tables ts
 
 -- and what is public of a session with them has these settings
 record Waits (words : List Text) (secret : List ℕ) (held : Option Mark) (kept : ℕ → Option KeptRegion) (t : Session) : Type 0 where
@@ -135,7 +135,7 @@ tells_on Begun config keys base old new begins tells = absurd begins
 tells_on (Saved region blocks number pack salt check) config keys base old new begins tells = absurd begins
 tells_on (Closed region blocks number pack) config keys base old new begins tells = subst (λ (b : Bool). IsTrue b) (sym begins.1.tells) tells
 
--- ---- one run, and those behind it
+-- ---- one run, and those after it
 module _ (words : List Text) (secret : List ℕ) (f : Ending) (one : OneRun words) (run : SessionKept (settings_of kept_usage words) (flight_of kept_usage words) (IsTaken kept_usage words) (is_traced kept_usage words) one.old one.new one.keeper0 one.keeper1 one.run.ending one.run.answers one.report)
     (came : one.run.ran ≡ inr (inr run)) (refused : Bool) (well : one.run.ending ≡ Plain (Ran (Ok refused))) (kept : is_kept words ≡ true) (keyed : run.secret ≡ secret) (none : failures one.run.answers ≡ 0) (tells : IsTrue one.old.store.tells)
     (honest : one.new.store.lie ≡ None) (flies : flight_of kept_usage words ≡ None) (early : run.base.count + length (trace_of (flying (flight_of kept_usage words) run.base) run.session.story.entries) < 2 ^ 63)
@@ -201,28 +201,28 @@ module _ (words : List Text) (secret : List ℕ) (f : Ending) (one : OneRun word
   are : AreOf run.session.story.spelt all
   are = are_of base alone (keys_in run.session.taken) run.session.ending run.session.story run.opened run.served.store run.session.accesses
 
-  -- what it answered, and what rests behind it where a closing could be made
+  -- what it answered, and what rests after it where a closing could be made
   abbrev Leaves : (used : Bool) → Broken → Type 0
-  Leaves used broken = MatchBool used ⊤ (Rests (keys_of run.secret) tables.closing one.new.store.kept (by_name (after_all s run.session.story.spelt broken).tables))
+  Leaves used broken = MatchBool used ⊤ (IsAtRest (keys_of run.secret) tables.closing one.new.store.kept (by_name (after_all s run.session.story.spelt broken).tables))
 
   abbrev Meant : KeySet → Ending → Session → Type 0
   Meant keys ending u = (broken : Broken) × AnswersAlone ending (drawing keys u) run.session.story.spelt broken run.session.story.answers all run.session.story.part
 
   abbrev Rested : Session → Type 0
-  Rested u = (broken : Broken) × AnswersFrom (Ran (Ok closed.0)) (seats_of base run.session.story.entries) (drawing (keys_of run.secret) u) run.session.story.spelt broken run.session.story.answers all run.session.story.part
-      × Rests (keys_of run.secret) tables.closing one.new.store.kept (by_name (session_after (seats_of base run.session.story.entries) (drawing (keys_of run.secret) u) run.session.story.spelt broken).tables)
+  Rested u = (broken : Broken) × AnswersFrom (Ran (Ok closed.0)) (positions_of base run.session.story.entries) (drawing (keys_of run.secret) u) run.session.story.spelt broken run.session.story.answers all run.session.story.part
+      × IsAtRest (keys_of run.secret) tables.closing one.new.store.kept (by_name (session_after (positions_of base run.session.story.entries) (drawing (keys_of run.secret) u) run.session.story.spelt broken).tables)
 
   rested_alone : Rested (session_at run.base begins.tables) → (broken : Broken) × AnswersAlone (Ran (Ok closed.0)) (drawing (keys_of run.secret) (session_at run.base begins.tables)) run.session.story.spelt broken run.session.story.answers all run.session.story.part
-      × Rests (keys_of run.secret) tables.closing one.new.store.kept (by_name (after_all (drawing (keys_of run.secret) (session_at run.base begins.tables)) run.session.story.spelt broken).tables)
+      × IsAtRest (keys_of run.secret) tables.closing one.new.store.kept (by_name (after_all (drawing (keys_of run.secret) (session_at run.base begins.tables)) run.session.story.spelt broken).tables)
   rested_alone rested =
       let u : Session = drawing (keys_of run.secret) (session_at run.base begins.tables) in
       let meant =
       as_alone (words_of base) 0 (Ran (Ok closed.0)) u run.session.story.spelt rested.0 run.session.story.answers all run.session.story.part are
-      (subst (λ (es : List Entry). AnswersFrom (Ran (Ok closed.0)) (seats_of base es) u run.session.story.spelt rested.0 run.session.story.answers all run.session.story.part) ran.entries rested.1) in
-      let behind : session_after (seats_of base run.session.story.entries) u run.session.story.spelt rested.0 ≡ after_all u run.session.story.spelt rested.0 =
-      ap (λ (es : List Entry). session_after (seats_of base es) u run.session.story.spelt rested.0) ran.entries
+      (subst (λ (es : List Entry). AnswersFrom (Ran (Ok closed.0)) (positions_of base es) u run.session.story.spelt rested.0 run.session.story.answers all run.session.story.part) ran.entries rested.1) in
+      let behind : session_after (positions_of base run.session.story.entries) u run.session.story.spelt rested.0 ≡ after_all u run.session.story.spelt rested.0 =
+      ap (λ (es : List Entry). session_after (positions_of base es) u run.session.story.spelt rested.0) ran.entries
       ∙ behind_all (words_of base) 0 (Ran (Ok closed.0)) u run.session.story.spelt rested.0 run.session.story.answers all run.session.story.part are meant each in
-      (rested.0, meant, subst (λ (v : Session). Rests (keys_of run.secret) tables.closing one.new.store.kept (by_name v.tables)) behind rested.2)
+      (rested.0, meant, subst (λ (v : Session). IsAtRest (keys_of run.secret) tables.closing one.new.store.kept (by_name v.tables)) behind rested.2)
 
   answered : (used : Bool) → is_used_up tables.closing ≡ used → (broken : Broken) × AnswersAlone (Ran (Ok closed.0)) s run.session.story.spelt broken run.session.story.answers all run.session.story.part × Leaves used broken
   answered true is =
@@ -237,7 +237,7 @@ module _ (words : List Text) (secret : List ℕ) (f : Ending) (one : OneRun word
       let from_it = rested_alone (begins.from Rested (from_flying (flight_of kept_usage words) run.base Rested (tables.rests (record { tells = tells_opened; no_lie = honest }) is made.0 made.1))) in (
         from_it.0,
         subst (λ (x : List ℕ). AnswersAlone (Ran (Ok closed.0)) (drawing (keys_of x) (session_at run.base begins.tables)) run.session.story.spelt from_it.0 run.session.story.answers all run.session.story.part) keyed from_it.1,
-        subst (λ (x : List ℕ). Rests (keys_of run.secret) tables.closing one.new.store.kept (by_name (after_all (drawing (keys_of x) (session_at run.base begins.tables)) run.session.story.spelt from_it.0).tables)) keyed from_it.2,
+        subst (λ (x : List ℕ). IsAtRest (keys_of run.secret) tables.closing one.new.store.kept (by_name (after_all (drawing (keys_of x) (session_at run.base begins.tables)) run.session.story.spelt from_it.0).tables)) keyed from_it.2,
       )
 
   -- what the keeper holds
@@ -261,9 +261,9 @@ module _ (words : List Text) (secret : List ℕ) (f : Ending) (one : OneRun word
     step = alike.there;
     at = waits_made used u.tables is (λ free.
         let ts = (after_all s run.session.story.spelt broken).tables in
-        let rests = subst (λ (b : Bool). MatchBool b ⊤ (Rests (keys_of run.secret) tables.closing one.new.store.kept (by_name ts))) free leaves in (
+        let rests = subst (λ (b : Bool). MatchBool b ⊤ (IsAtRest (keys_of run.secret) tables.closing one.new.store.kept (by_name ts))) free leaves in (
           by_name ts,
-          subst (λ (x : List ℕ). Rests (keys_of x) tables.closing one.new.store.kept (by_name ts)) keyed rests,
+          subst (λ (x : List ℕ). IsAtRest (keys_of x) tables.closing one.new.store.kept (by_name ts)) keyed rests,
           alike_chained (by_name ts) ts u.tables (alike_turned ts (by_name ts) (named_alike ts alike.tables.apart)) alike.tables,
         ));
   }
@@ -282,7 +282,7 @@ module _ (words : List Text) (secret : List ℕ) (f : Ending) (one : OneRun word
   alone_here batchless =
       are_alone (Ran (Ok closed.0)) run.session.story.spelt s told.0 run.session.story.answers all run.session.story.part (ap (λ (p : Public). p.batch) begins.alike.settings ∙ batchless) each unfailed told.1
 
-  -- it is answered as in one run, and the rest follows from where it waits behind it
+  -- it is answered as in one run, and the rest follows from where it waits after it
   module _ (soon_too : (after_all t run.session.story.spelt hows_here).asked < 2 ^ 63) where
     on : GoesOn s run.session.story.spelt told.0 run.session.story.answers all t
     on = answers_on _ None (Ran (Ok closed.0)) run.session.story.spelt s t told.0 run.session.story.answers all run.session.story.part begins.alike each unfailed told.1 ran.lawful soon soon_too
@@ -297,7 +297,7 @@ record InOne (words : List Text) (f : Ending) (runs : List (OneRun words)) (t : 
   alone : t.public.batch ≡ None → AreAlone hows
   answered : (after_all t (all_spelt runs) hows).asked < 2 ^ 63 → AnswersAlone f t (all_spelt runs) hows (all_answers runs) (all_seen runs) []
 
--- a run, and those behind it: its texts spell these statements, which were answered and seen so
+-- a run, and those after it: its texts spell these statements, which were answered and seen so
 record FirstOf (words : List Text) (f : Ending) (t : Session) (spelt : List Spelt) (answers : List Answer) (seen : List Served) (Later : Session → Type 0) : Type 0 where
   broken : Broken
   alone : t.public.batch ≡ None → AreAlone (hows_of spelt broken)
@@ -390,7 +390,7 @@ answer_as_one words keeps flies secret kept runs goes = go (first_of words secre
 
     -- as it is said of one run, of which none flies
     said : (hows : Broken) → AnswersAlone f (first_of words secret) (all_spelt runs) hows (all_answers runs) (all_seen runs) []
-        → AnswersFrom f (seats_alone (first_of words secret) (all_seen runs)) (first_of words secret) (all_spelt runs) hows (all_answers runs) (all_seen runs) []
+        → AnswersFrom f (positions_alone (first_of words secret) (all_seen runs)) (first_of words secret) (all_spelt runs) hows (all_answers runs) (all_seen runs) []
     said hows answers = from_alone (drawn 0) 0 f (first_of words secret) (all_spelt runs) hows (all_answers runs) (all_seen runs) [] (runs_are words flies runs) answers
 
     go : (o : Option ℕ) → (first_of words secret).public.batch ≡ o → AnswerAsOne secret runs

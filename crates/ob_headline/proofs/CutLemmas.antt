@@ -67,7 +67,7 @@ count_as same by = record {
   counted = λ k plan then end. same (Some k) plan then end ∙ by.counted k plan then end;
 }
 
--- what an access asks behind the reads of its stash
+-- what an access asks after the reads of its stash
 abbrev access_rest : (tree stash slots height leaf : ℕ) → List Access
 access_rest tree stash slots height leaf =
     each (4 * (height + 1)) (path_read tree height leaf) ++ (each (4 * (height + 1)) (path_write tree height leaf) ++ each slots (write_at stash))
@@ -82,7 +82,7 @@ indexed_parts p t flat indexed = record {
   read = λ k plan then leaf end. ap (λ (s : Shape). by_shape s (flat k plan then (Some leaf, end)) (index_part_of p (Some leaf) t)) indexed;
 }
 
--- a SELECT of rows behind these accesses; where results are padded, it is the same whatever is held
+-- a SELECT of rows after these accesses; where results are padded, it is the same whatever is held
 select_parts : (pad : Option ℕ) (p : Public) (before : List Access) (g : ℕ) (t : _) (ending : List Access)
     → Fixed (λ k plan then end. before ++ (count_part t.region (blocks_of p t) ++ behind_count pad p (holding k plan then end) g t ending))
     ⊎ ByCount (λ k plan then end. before ++ (count_part t.region (blocks_of p t) ++ behind_count pad p (holding k plan then end) g t ending)) (length ending)

@@ -9,7 +9,7 @@ use Rattle.ob_headline.proofs.AlikeSessions.{SessionsAlike, TablesAlike, after_a
 use Rattle.ob_headline.proofs.BatchLemmas.{sound_now}
 use Rattle.ob_headline.specs.Accesses.{Says}
 use Rattle.ob_headline.proofs.ServedAlone.{AnswersAlone, AreOf, SeenAlone, alone_from, behind_alone, head_taken, rest_taken}
-use Rattle.ob_headline.specs.Flights.{Seat, at_seat}
+use Rattle.ob_headline.specs.Flights.{Position, at_position}
 use Rattle.ob_headline.specs.SavedHeadline.{answered_by, left_by, taken_by}
 use Rattle.ob_headline.specs.SavedRuns.{AnsweredInOne, Effect, effects_of, has_failed, texts_of, unanswered}
 use Rattle.ob_headline.specs.Statements.{statements}
@@ -49,7 +49,7 @@ unfailed g s stmt o here cut seen = go (has_failed o) refl
         absurd (cc (broken, same, sound_now g s stmt))
     go false is = refl
 
--- nor is that of an INSERT that is served with another: behind the refusals that come before any access, its key is there or
+-- nor is that of an INSERT that is served with another: after the refusals that come before any access, its key is there or
 -- no slot is left
 room_sound : (t : Stored (List Row)) (row : Row) (r : Refusal) → insert_refusal t row ≡ Some r → is_store_fault r ≡ false
 room_sound t row r is = by_key (has_key (key_place t.heading.schema) row t.held) is
@@ -88,7 +88,7 @@ member_sound s (Insert table columns values) member = at (stored_at table (datab
     early : early_refusal (is_late s.asked) (limits_of s.public) (headings db) stmt ≡ None
     early = ap (λ (hs : List Heading). early_refusal (is_late s.asked) (limits_of s.public) hs stmt) (headings-database s.tables) ∙ member.early
 
-    -- by the refusal behind those
+    -- by the refusal after those
     sound : (o : Option Refusal) → ((r : Refusal) → o ≡ Some r → is_store_fault r ≡ false) → has_failed (outcome_of stmt (answered (option_or (option_or None o) None) (accepted_answer db stmt))) ≡ false
     sound None each = refl
     sound (Some r) each = each r refl
@@ -104,7 +104,7 @@ member_sound s (Insert table columns values) member = at (stored_at table (datab
         let row : Row = new_row t.heading.schema columns values in
         by_late (insert_refusal t row) (ap (λ (u : Option (Stored (List Row))). option_map_or (λ (t : Stored (List Row)). insert_refusal t (new_row t.heading.schema columns values)) u None) is) (room_sound t row)
 
--- the tables behind these statements, from a session
+-- the tables after these statements, from a session
 abbrev left_from : Session → List Stmt → Tables
 left_from u stmts = settle_all u.draws u.public u.asked stmts u.tables
 
@@ -112,23 +112,23 @@ taken_more : (more : Option (List Stmt)) (x : Spelt) (spelt : List Spelt) (one :
 taken_more None x spelt one answers = refl
 taken_more (Some behind) x spelt one answers = refl
 
--- behind a text that was answered
-module _ (more : Option (List Stmt)) (seats : List Seat) (s : Session) (spelt : List Spelt) (one : Answer) (answers : List Answer) (broken : Broken) where
+-- after a text that was answered
+module _ (more : Option (List Stmt)) (positions : List Position) (s : Session) (spelt : List Spelt) (one : Answer) (answers : List Answer) (broken : Broken) where
   abbrev n : ℕ
   n = length answers
 
-  pub left_refused : (at : ℕ) → left_by more seats s (Err at ∷ spelt) (one ∷ answers) broken ≡ left_by more seats s spelt answers (rest_of broken)
+  pub left_refused : (at : ℕ) → left_by more positions s (Err at ∷ spelt) (one ∷ answers) broken ≡ left_by more positions s spelt answers (rest_of broken)
   unfolding session_after
-  left_refused at = λ i. left_from (session_after seats s (take n spelt) (rest_taken n broken i)) (taken_more more (Err at) spelt one answers i)
+  left_refused at = λ i. left_from (session_after positions s (take n spelt) (rest_taken n broken i)) (taken_more more (Err at) spelt one answers i)
 
-  pub left_served : (v : Seat) (stmt : Stmt) → is_full_now (at_seat v s) stmt ≡ false
-      → left_by more (v ∷ seats) s (Ok stmt ∷ spelt) (one ∷ answers) broken ≡ left_by more seats (after (head_of broken) (at_seat v s) stmt) spelt answers (rest_of broken)
+  pub left_served : (v : Position) (stmt : Stmt) → is_full_now (at_position v s) stmt ≡ false
+      → left_by more (v ∷ positions) s (Ok stmt ∷ spelt) (one ∷ answers) broken ≡ left_by more positions (after (head_of broken) (at_position v s) stmt) spelt answers (rest_of broken)
   unfolding session_after
   left_served v stmt room =
       let first : Broken = take (suc n) broken in
-      let behind : answered_by (v ∷ seats) s (Ok stmt ∷ spelt) (one ∷ answers) broken ≡ answered_by seats (after (head_of broken) (at_seat v s) stmt) spelt answers (rest_of broken) =
-      ap (λ (b : Bool). if b then at_seat v s else session_after seats (after (head_of first) (at_seat v s) stmt) (take n spelt) (rest_of first)) room
-      ∙ (λ i. session_after seats (after (head_taken n broken i) (at_seat v s) stmt) (take n spelt) (rest_taken n broken i)) in
+      let behind : answered_by (v ∷ positions) s (Ok stmt ∷ spelt) (one ∷ answers) broken ≡ answered_by positions (after (head_of broken) (at_position v s) stmt) spelt answers (rest_of broken) =
+      ap (λ (b : Bool). if b then at_position v s else session_after positions (after (head_of first) (at_position v s) stmt) (take n spelt) (rest_of first)) room
+      ∙ (λ i. session_after positions (after (head_taken n broken i) (at_position v s) stmt) (take n spelt) (rest_taken n broken i)) in
       λ i. left_from (behind i) (taken_more more (Ok stmt) spelt one answers i)
 
 -- the tables that are left where each statement is served alone
@@ -217,7 +217,7 @@ module _ (s t : Session) (alike : SessionsAlike s t) (soon : s.asked < 2 ^ 63) w
   one_more (Some behind) (Ok stmt ∷ spelt) broken few = more_alike (stmt ∷ behind) few
   one_more (Some behind) (Err at ∷ spelt) broken few = let rest = more_alike behind few in ((tt, rest.0), rest.1)
 
--- a statement that was answered, and more behind it
+-- a statement that was answered, and more after it
 module _ (Leaves : Public → Stmt → Seen → Type 0) (g : Option Gathering) (ending : Ending) (more : Option (List Stmt)) (stmt : Stmt) (spelt : List Spelt) (s t : Session) (broken : Broken) (one : Answer) (answers : List Answer) (x : Served) (seen : List Served) (part : List ℕ)
     (alike : SessionsAlike s t)
     (lawful : (x.skeleton ≡ skeleton stmt) × Lawful s.public s.asked stmt x.seen
@@ -234,7 +234,7 @@ module _ (Leaves : Public → Stmt → Seen → Type 0) (g : Option Gathering) (
   abbrev Told : How → Type 0
   Told how = (is_full_now s stmt ≡ false) × IsCutOff how s stmt × AnswersIn how s stmt one × (x.seen ≡ seen_or_cut how s stmt) × AnswersAlone ending (after how s stmt) spelt (rest_of broken) answers seen part
 
-  -- what is gathered behind it
+  -- what is gathered after it
   abbrev gathered : How → Option Gathering
   gathered how = gathering_after s.public s.asked g stmt (seen_or_cut how s stmt).end
 
@@ -242,7 +242,7 @@ module _ (Leaves : Public → Stmt → Seen → Type 0) (g : Option Gathering) (
   Follows = (h : Option Gathering) (u v : Session) → SessionsAlike u v → AnswersAlone ending u spelt (rest_of broken) answers seen part → SeenAlone Leaves u.public u.asked h spelt answers seen → u.asked + length (trace u.public seen) < 2 ^ 63
       → (after_all v (texts_of behind) []).asked < 2 ^ 63 → Took v (left_alone more u spelt answers (rest_of broken)) behind
 
-  -- the accesses behind it
+  -- the accesses after it
   fewer : s.asked + length (script s.public x.skeleton x.seen) + length (trace (next s.public x.skeleton x.seen) seen) < 2 ^ 63
   fewer =
       let long = length-append (script s.public x.skeleton x.seen) (trace (next s.public x.skeleton x.seen) seen) in

@@ -3,7 +3,7 @@ use Rattle.ob_headline.proofs.Words.{ap, AreFlat, Closing, Config, End, false, F
 use Rattle.ob_mean.specs.Lawful.{HoldsLeaf}
 use Rattle.ob_reopen.specs.Limits.{IsCatalogue}
 use Rattle.ob_reopen.specs.Reopened.{opened_public}
-use Rattle.ob_reopen.specs.Resting.{AreKept, Rests}
+use Rattle.ob_reopen.specs.Resting.{AreKept, IsAtRest}
 
 -- each table is flat, by what is public
 abbrev pub IsFlat : Public → Type 0
@@ -40,6 +40,6 @@ kept_flat keys pack (t ∷ ts) [] kept each are = absurd are
 kept_flat keys pack (t ∷ ts) (held ∷ tables) kept each are =
     (ap (λ (h : Heading). h.shape) are.0 ∙ each zero t refl, kept_flat keys pack ts tables kept (λ i u is. each (suc i) u is) are.2)
 
-pub rested_flat : (keys : KeySet) (closing : Closing) (kept : ℕ → Option KeptRegion) (tables : Tables) → Rests keys closing kept tables → AreFlat (headings tables)
+pub rested_flat : (keys : KeySet) (closing : Closing) (kept : ℕ → Option KeptRegion) (tables : Tables) → IsAtRest keys closing kept tables → AreFlat (headings tables)
 rested_flat keys closing kept tables rests =
     kept_flat keys closing.pack rests.listed tables kept (each_listed closing rests.listed rests.closing_is.catalogue) rests.held

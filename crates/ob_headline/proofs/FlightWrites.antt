@@ -1,5 +1,5 @@
 -- Statements in flight write to regions that they make, or to those of an index, whatever the turns.
-use Rattle.ob_headline.proofs.Words.{Access, Accesses, AfterCount, All, All-head, Answer, ap, append_assoc, AreEntries, AreSeen, arith, Base, Bool, cases_lt, Continuous, Cut, drop, End, Ending, Err, false, Gathering, gathering_after, get_back, get_front, Hash, Holds, inl, inr, is_access, Joined, KeySet, Large, Lawful, length, List, Make, map, most_of, next, None, Ok, Option, option_map, Plan, Public, refl, script, seats_of, Seen, Served, slice_get, Small, Some, Spelt, Static, Stmt, StoreState, Story, subst, suc, sym, Table, take, trace_of, true, Whole, words_of, Write, zero, ℕ, [], ⊤, ◌++◌, ◌+◌, ◌-◌, ◌<◌, ◌∙◌, ◌∷◌, ◌≡◌, ◌≤◌, ◌⊎◌}
+use Rattle.ob_headline.proofs.Words.{Access, Accesses, AfterCount, All, All-head, Answer, ap, append_assoc, AreEntries, AreSeen, arith, Base, Bool, cases_lt, Continuous, Cut, drop, End, Ending, Err, false, Gathering, gathering_after, get_back, get_front, Hash, Holds, inl, inr, is_access, Batched, KeySet, Large, Lawful, length, List, Make, map, most_of, next, None, Ok, Option, option_map, Plan, Public, refl, script, positions_of, Seen, Served, slice_get, Small, Some, Spelt, Static, Stmt, StoreState, Story, subst, suc, sym, Table, take, trace_of, true, Whole, words_of, Write, zero, ℕ, [], ⊤, ◌++◌, ◌+◌, ◌-◌, ◌<◌, ◌∙◌, ◌∷◌, ◌≡◌, ◌≤◌, ◌⊎◌}
 use Rattle.std.specs.Prelude.{unwrap_or, slice_set}
 use Rattle.std.proofs.lemmas.Bool.{cases_eq}
 use Rattle.std.proofs.lemmas.List.Elements.{All-tail}
@@ -7,7 +7,7 @@ use Rattle.ob_base.specs.declared.config.Planner.TheVariants.{Forced}
 use Rattle.ob_headline.proofs.IndexWrites.{next_index}
 use Rattle.ob_headline.proofs.OwnLemmas.{InOrder, in_order, ordered_own}
 use Rattle.ob_headline.specs.Accesses.{IsLeft}
-use Rattle.ob_headline.specs.Flights.{IsEntry, Seat, after_entries, Stand, seats, seats_aloft, served_by}
+use Rattle.ob_headline.specs.Flights.{IsEntry, Position, after_entries, LeftAt, positions, positions_in_flight, served_by}
 use Rattle.ob_headline.specs.Shown.{OfIndex, WritesOwn, Wrote}
 use Rattle.ob_script.proofs.FlightLemmas.{public_turns}
 use Rattle.ob_script.proofs.ListPlaces.{get_set_other, get_set_same}
@@ -16,7 +16,7 @@ use Rattle.ob_script.specs.FlightLaws.{MayFly, SelectsFromOne}
 use Rattle.ob_script.specs.Flights.{Alone, Entry, Flight, Flying, Together, accesses_in, acted, boarded, boarding, entry_of, flight, flight_accesses, gates_of, gone_on, merge, next_act, next_flight, picked, place_by, region_after, runnable, trace_in, turn, turns, turns_of, words_from}
 use Rattle.ob_mean.specs.Standing.{StandsAs}
 
--- no second plan comes behind none
+-- no second plan comes after none
 no_second : (x : Served) → x.seen.then ≡ None → InOrder x.seen.plan x.seen.then
 no_second x none = subst (λ (o : Option Plan). InOrder x.seen.plan o) (sym none) (go x.seen.plan)
   where
@@ -210,14 +210,14 @@ small_alone p stmt seen (Some k) (Some Hash) (Some Large) small holds = absurd h
 small_alone p stmt seen (Some k) (Some Hash) (Some Continuous) small holds = absurd holds
 small_alone p stmt seen (Some k) (Some Hash) (Some Hash) small holds = absurd holds
 
--- plans are in order, and none comes behind Small where that is forced
+-- plans are in order, and none comes after Small where that is forced
 abbrev IsOrdered : Public → Seen → Type 0
 IsOrdered p seen = InOrder seen.plan seen.then × (p.planner ≡ Forced Small → seen.then ≡ None)
 
-unfoldable AreOrderedBy : List Seat → List Served → Type 0
-AreOrderedBy seats [] = ⊤
+unfoldable AreOrderedBy : List Position → List Served → Type 0
+AreOrderedBy positions [] = ⊤
 AreOrderedBy [] (x ∷ seen) = ⊥
-AreOrderedBy (v ∷ seats) (x ∷ seen) = IsOrdered v.public x.seen × AreOrderedBy seats seen
+AreOrderedBy (v ∷ positions) (x ∷ seen) = IsOrdered v.public x.seen × AreOrderedBy positions seen
 
 lawful_ordered : (p : Public) (m : ℕ) (stmt : Stmt) (seen : Seen) → Lawful p m stmt seen → IsOrdered p seen
 lawful_ordered p m stmt seen lawful = (in_order p stmt seen seen.k seen.plan seen.then lawful.holds, λ small. small_alone p stmt seen seen.k seen.plan seen.then small lawful.holds)
@@ -226,43 +226,43 @@ stands_ordered : (p : Public) (m n : ℕ) (stmt : Stmt) (seen : Seen) (end : End
 stands_ordered p m n stmt seen Static lawful = lawful_ordered p m stmt seen lawful
 stands_ordered p m n stmt seen Whole lawful = lawful_ordered p m stmt (record seen { end = Cut n }) lawful
 stands_ordered p m n stmt seen AfterCount lawful = absurd lawful
-stands_ordered p m n stmt seen Joined lawful = absurd lawful
+stands_ordered p m n stmt seen Batched lawful = absurd lawful
 stands_ordered p m n stmt seen (Cut cut) lawful = lawful_ordered p m stmt seen lawful.2
 
-left_ordered : (Leaves : Public → Stmt → Seen → Type 0) (left : Option Stand) (v : Seat) (g : Option Gathering) (stmt : Stmt) (seen : Seen) → IsLeft Leaves left v g stmt seen → IsOrdered v.public seen
+left_ordered : (Leaves : Public → Stmt → Seen → Type 0) (left : Option LeftAt) (v : Position) (g : Option Gathering) (stmt : Stmt) (seen : Seen) → IsLeft Leaves left v g stmt seen → IsOrdered v.public seen
 left_ordered Leaves None v g stmt seen is = lawful_ordered v.public v.asked stmt seen is.0
 left_ordered Leaves (Some stand) v g stmt seen is = elim is [
   | inl ended ↦ lawful_ordered v.public v.asked stmt seen ended.1
   | inr stands ↦ stands_ordered v.public v.asked stand.own stmt seen seen.end stands.1
 ]
 
-seen_ordered : (Leaves : Public → Stmt → Seen → Type 0) (seats : List Seat) (g : Option Gathering) (spelt : List Spelt) (answers : List Answer) (seen : List Served) → AreSeen Leaves seats g spelt answers seen → AreOrderedBy seats seen
+seen_ordered : (Leaves : Public → Stmt → Seen → Type 0) (positions : List Position) (g : Option Gathering) (spelt : List Spelt) (answers : List Answer) (seen : List Served) → AreSeen Leaves positions g spelt answers seen → AreOrderedBy positions seen
 unfolding AreSeen AreOrderedBy
-seen_ordered Leaves seats g [] answers seen are = subst (λ (xs : List Served). AreOrderedBy seats xs) (sym are) tt
-seen_ordered Leaves seats g (Err at ∷ spelt) [] seen are = seen_ordered Leaves seats None spelt [] seen are
-seen_ordered Leaves seats g (Err at ∷ spelt) (one ∷ answers) seen are = seen_ordered Leaves seats None spelt answers seen are.1
-seen_ordered Leaves seats g (Ok stmt ∷ spelt) [] [] are = absurd are
-seen_ordered Leaves seats g (Ok stmt ∷ spelt) (one ∷ answers) [] are = absurd are
+seen_ordered Leaves positions g [] answers seen are = subst (λ (xs : List Served). AreOrderedBy positions xs) (sym are) tt
+seen_ordered Leaves positions g (Err at ∷ spelt) [] seen are = seen_ordered Leaves positions None spelt [] seen are
+seen_ordered Leaves positions g (Err at ∷ spelt) (one ∷ answers) seen are = seen_ordered Leaves positions None spelt answers seen are.1
+seen_ordered Leaves positions g (Ok stmt ∷ spelt) [] [] are = absurd are
+seen_ordered Leaves positions g (Ok stmt ∷ spelt) (one ∷ answers) [] are = absurd are
 seen_ordered Leaves [] g (Ok stmt ∷ spelt) [] (x ∷ seen) are = absurd are
 seen_ordered Leaves [] g (Ok stmt ∷ spelt) (one ∷ answers) (x ∷ seen) are = absurd are
-seen_ordered Leaves (v ∷ seats) g (Ok stmt ∷ spelt) [] (x ∷ seen) are =
-    (left_ordered Leaves v.left v g stmt x.seen are.1, seen_ordered Leaves seats (gathering_after v.public v.asked g stmt x.seen.end) spelt [] seen are.2)
-seen_ordered Leaves (v ∷ seats) g (Ok stmt ∷ spelt) (one ∷ answers) (x ∷ seen) are =
-    (lawful_ordered v.public v.asked stmt x.seen are.1, seen_ordered Leaves seats (gathering_after v.public v.asked g stmt x.seen.end) spelt answers seen are.3)
+seen_ordered Leaves (v ∷ positions) g (Ok stmt ∷ spelt) [] (x ∷ seen) are =
+    (left_ordered Leaves v.left v g stmt x.seen are.1, seen_ordered Leaves positions (gathering_after v.public v.asked g stmt x.seen.end) spelt [] seen are.2)
+seen_ordered Leaves (v ∷ positions) g (Ok stmt ∷ spelt) (one ∷ answers) (x ∷ seen) are =
+    (lawful_ordered v.public v.asked stmt x.seen are.1, seen_ordered Leaves positions (gathering_after v.public v.asked g stmt x.seen.end) spelt answers seen are.3)
 
 -- ---- by entries
 module _ (p : Public) (m : ℕ) (all : List Served) (words : ℕ → ℕ) (left : Option ℕ) where
-  -- those of a flight, and those behind it
-  split_ordered : (i : ℕ) (flown : List Served) (behind : List Seat) (rest : List Served) → All (λ (x : Served). SelectsFromOne x.skeleton) flown
-      → AreOrderedBy (seats_aloft p m all words left i (length flown) ++ behind) (flown ++ rest) → AllMayFly flown × AreOrderedBy behind rest
-  unfolding AreOrderedBy AllMayFly seats_aloft
+  -- those of a flight, and those after it
+  split_ordered : (i : ℕ) (flown : List Served) (behind : List Position) (rest : List Served) → All (λ (x : Served). SelectsFromOne x.skeleton) flown
+      → AreOrderedBy (positions_in_flight p m all words left i (length flown) ++ behind) (flown ++ rest) → AllMayFly flown × AreOrderedBy behind rest
+  unfolding AreOrderedBy AllMayFly positions_in_flight
   split_ordered i [] behind rest selects are = (tt, are)
   split_ordered i (x ∷ flown) behind rest selects are =
       let more = split_ordered (i + 1) flown behind rest (All-tail (λ (y : Served). SelectsFromOne y.skeleton) x flown selects) are.1 in
       ((record { skeleton = All-head (λ (y : Served). SelectsFromOne y.skeleton) x flown selects; one_plan = are.0.1 refl }, more.0), more.1)
 
-entries_ordered : (most answered : ℕ) (words : ℕ → ℕ) (t : ℕ) (p : Public) (m : ℕ) (entries : List Entry) → AreEntries most answered entries → AreOrderedBy (seats words t p m entries) (served_by entries) → AreOrdered entries
-unfolding AreEntries AreOrdered AreOrderedBy seats served_by
+entries_ordered : (most answered : ℕ) (words : ℕ → ℕ) (t : ℕ) (p : Public) (m : ℕ) (entries : List Entry) → AreEntries most answered entries → AreOrderedBy (positions words t p m entries) (served_by entries) → AreOrdered entries
+unfolding AreEntries AreOrdered AreOrderedBy positions served_by
 entries_ordered most answered words t p m [] are ordered = tt
 entries_ordered most answered words t p m (Alone x ∷ entries) are ordered =
     (ordered.0.0, entries_ordered most (answered - 1) words t (next p x.skeleton x.seen) (m + length (script p x.skeleton x.seen)) entries are.2 ordered.1)
@@ -278,16 +278,16 @@ entries_ordered most answered words t p m (Together flown left ∷ entries) are 
 
 pub run_ordered : (base : Base) (keys : KeySet) (ending : Ending) (story : Story) (old new : StoreState) → Accesses base keys ending story old new → AreOrdered story.entries
 run_ordered base keys ending story old new accesses =
-    let seen = seen_ordered _ (seats_of base story.entries) None story.spelt story.answers (story.seen ++ story.last) accesses.lawful in
+    let seen = seen_ordered _ (positions_of base story.entries) None story.spelt story.answers (story.seen ++ story.last) accesses.lawful in
     entries_ordered (most_of base) (length story.seen) (words_of base) 0 base.public base.count story.entries accesses.entered.entries
-    (subst (λ (xs : List Served). AreOrderedBy (seats_of base story.entries) xs) (sym accesses.entered.served) seen)
+    (subst (λ (xs : List Served). AreOrderedBy (positions_of base story.entries) xs) (sym accesses.entered.served) seen)
 
 -- all that a run writes is in regions from the next one on, or in those of an index that there is
 pub run_writes : (base : Base) (keys : KeySet) (ending : Ending) (story : Story) (old new : StoreState) → Accesses base keys ending story old new → (i q x : ℕ) → slice_get (trace_of base story.entries) i ≡ Some (Write q x)
     → (base.public.next_region ≤ q) ⊎ OfIndex base.public.tables q
 run_writes base keys ending story old new accesses = entries_from (words_of base) 0 base.public story.entries (run_ordered base keys ending story old new accesses)
 
--- ---- behind some of them
+-- ---- after some of them
 turns_behind : (words : ℕ → ℕ) (t : ℕ) (p : Public) → List Entry → ℕ
 turns_behind words t p [] = t
 turns_behind words t p (Alone x ∷ entries) = turns_behind words t (next p x.skeleton x.seen) entries

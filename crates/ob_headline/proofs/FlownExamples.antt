@@ -1,8 +1,8 @@
 -- How texts are gathered to fly: worked examples.
 use Rattle.ob_headline.proofs.Words.{arith, Bool, codes, Cut, drop, ended, Err, false, first_course, Flat, inl, inr, Lawful, List, map, meant_entries, None, Ok, Public, refl, Seen, Served, skeleton, Some, start, Static, Stmt, suc, Table, true, Whole, whole_of, zero, ℕ, [], ◌∷◌, ◌≡◌}
-use Rattle.ob_headline.specs.Accesses.{FirstWants, IsLeft, cut_aloft}
+use Rattle.ob_headline.specs.Accesses.{FirstWants, IsLeft, cut_in_flight}
 use Rattle.ob_headline.specs.Failures.{cut_off}
-use Rattle.ob_headline.specs.Flights.{AreGathered, GoesOn, Seat, asked_until, most_in, seat_aloft, seats, seats_aloft, stand_at}
+use Rattle.ob_headline.specs.Flights.{AreGathered, GoesOn, Position, asked_until, most_in, position_in_flight, positions, positions_in_flight, stand_at}
 use Rattle.ob_mean.proofs.VerdictLemmas.{count_all}
 use Rattle.ob_mean.specs.Standing.{StandsAs}
 use Rattle.ob_script.specs.Flights.{Alone, Together, drawn, runnable, turn, turns, turns_for}
@@ -27,7 +27,7 @@ by_twos : meant_entries 2 (drawn 0) (first_course (start None)) (Ok select ∷ O
 unfolding meant_entries select x
 by_twos = refl
 
--- a text that is none, another statement and the end are behind what was gathered
+-- a text that is none, another statement and the end are after what was gathered
 ended_by_others : meant_entries 8 (drawn 0) (first_course (start None)) (Ok select ∷ Ok select ∷ Ok select ∷ Err 3 ∷ Ok select ∷ Ok drop_it ∷ Ok select ∷ Ok select ∷ [])
     ≡ Together (x ∷ x ∷ x ∷ []) None ∷ Alone x ∷ Alone y ∷ Together (x ∷ x ∷ []) None ∷ []
 unfolding meant_entries select drop_it x y
@@ -53,8 +53,8 @@ two_of_wide = refl
 one_of_widest : most_in (record { most = 8; start = 0 }) (record (start None).public { buffer = 64; pack = 16 }) ≡ 1
 one_of_widest = refl
 
--- two that read a table of two blocks, in turns: where the flight is left behind one access it is the turn of the other one,
--- and behind all of them of none
+-- two that read a table of two blocks, in turns: where the flight is left after one access it is the turn of the other one,
+-- and after all of them of none
 table : Table
 table = record { heading = record { name = codes "a"; schema = []; capacity = 2; shape = Flat }; region = 0 }
 
@@ -75,26 +75,26 @@ turn_of_none : turns_at 4 ≡ false ∷ false ∷ []
 unfolding turns_at turns turn runnable turns_for over_one table z select
 turn_of_none = refl
 
--- two of which one is refused before any access, left behind so many: for that one memory isn't wanting while it waits for the
--- other's end, nor behind its own; and for the other it may be, where nothing of it is left to be asked
+-- two of which one is refused before any access, left after so many: for that one memory isn't wanting while it waits for the
+-- other's end, nor after its own; and for the other it may be, where nothing of it is left to be asked
 wants_behind : ℕ → Served → Served → Type 0
-wants_behind k a b = FirstWants (seats (λ i. i) 0 over_one 5 (Together (a ∷ b ∷ []) (Some k) ∷ [])) (select ∷ select ∷ []) (a ∷ b ∷ [])
+wants_behind k a b = FirstWants (positions (λ i. i) 0 over_one 5 (Together (a ∷ b ∷ []) (Some k) ∷ [])) (select ∷ select ∷ []) (a ∷ b ∷ [])
 
 none_that_waits : wants_behind 1 z x → ⊥
-unfolding wants_behind FirstWants seats seats_aloft asked_until turns turn runnable turns_for over_one table z x select
+unfolding wants_behind FirstWants positions positions_in_flight asked_until turns turn runnable turns_for over_one table z x select
 none_that_waits (inl (on, inl (turn, emits))) = cc emits
 none_that_waits (inl (on, inr (end, closes))) = cc closes
 none_that_waits (inr (had, rest)) = omega (arith, had)
 
 none_that_ended : wants_behind 1 x z → ⊥
-unfolding wants_behind FirstWants seats seats_aloft asked_until turns turn runnable turns_for over_one table z x select
+unfolding wants_behind FirstWants positions positions_in_flight asked_until turns turn runnable turns_for over_one table z x select
 none_that_ended (inl (on, wants)) = omega (arith, on)
 none_that_ended (inr (had, inl (on, inl (turn, emits)))) = cc emits
 none_that_ended (inr (had, inl (on, inr (end, closes)))) = cc closes
 none_that_ended (inr (had, inr (hads, rest))) = rest
 
 first_that_goes_on : wants_behind 2 x z
-unfolding wants_behind FirstWants seats seats_aloft asked_until turns turn runnable turns_for over_one table z x select
+unfolding wants_behind FirstWants positions positions_in_flight asked_until turns turn runnable turns_for over_one table z x select
 first_that_goes_on = inr (omega arith, inl (omega arith, inr (refl, refl)))
 
 -- where the first one has read all and waits while the other reads, memory isn't wanting for it in the other's turns, but it may
@@ -105,57 +105,57 @@ later (suc zero) = 0
 later (suc (suc t)) = 1
 
 wants_later : ℕ → Type 0
-wants_later k = FirstWants (seats later 0 over_one 5 (Together (z ∷ z ∷ []) (Some k) ∷ [])) (select ∷ select ∷ []) (z ∷ z ∷ [])
+wants_later k = FirstWants (positions later 0 over_one 5 (Together (z ∷ z ∷ []) (Some k) ∷ [])) (select ∷ select ∷ []) (z ∷ z ∷ [])
 
 none_in_others_turn : wants_later 3 → ⊥
-unfolding later wants_later FirstWants seats seats_aloft asked_until turns turn runnable turns_for over_one table z select
+unfolding later wants_later FirstWants positions positions_in_flight asked_until turns turn runnable turns_for over_one table z select
 none_in_others_turn (inl (on, inl (inl last, emits))) = omega (arith, last)
 none_in_others_turn (inl (on, inl (inr next, emits))) = cc next
 none_in_others_turn (inl (on, inr (end, closes))) = omega (arith, end)
 none_in_others_turn (inr (had, rest)) = omega (arith, had)
 
 in_its_end : wants_later 4
-unfolding later wants_later FirstWants seats seats_aloft asked_until turns turn runnable turns_for over_one table z select
+unfolding later wants_later FirstWants positions positions_in_flight asked_until turns turn runnable turns_for over_one table z select
 in_its_end = inl (omega arith, inr (refl, refl))
 
 -- the one that was refused is answered by then, if it stands first, and the other one needn't be
 goes_behind : (j : ℕ) → Type 0
-goes_behind j = GoesOn (drop j (seats (λ i. i) 0 over_one 5 (Together (x ∷ z ∷ []) (Some 1) ∷ [])))
+goes_behind j = GoesOn (drop j (positions (λ i. i) 0 over_one 5 (Together (x ∷ z ∷ []) (Some 1) ∷ [])))
 
 not_left_out : goes_behind 0 → ⊥
-unfolding goes_behind seats seats_aloft asked_until turns turn runnable turns_for over_one table z x select
+unfolding goes_behind positions positions_in_flight asked_until turns turn runnable turns_for over_one table z x select
 not_left_out on = omega (arith, on)
 
 left_for_the_stop : goes_behind 1
-unfolding goes_behind seats seats_aloft asked_until turns turn runnable turns_for over_one table z x select
+unfolding goes_behind positions positions_in_flight asked_until turns turn runnable turns_for over_one table z x select
 left_for_the_stop = omega arith
 
--- how many accesses were asked when each had ended, five before them and one alone behind them, where all words are this one:
+-- how many accesses were asked when each had ended, five before them and one alone after them, where all words are this one:
 -- the first asks first and ends, or the second does, and waits with its answer
 untils : ℕ → List ℕ
-untils word = map (λ (v : Seat). v.until) (seats (λ t. word) 0 over_one 5 (Together (z ∷ z ∷ []) None ∷ Alone z ∷ []))
+untils word = map (λ (v : Position). v.until) (positions (λ t. word) 0 over_one 5 (Together (z ∷ z ∷ []) None ∷ Alone z ∷ []))
 
 first_ends : untils 0 ≡ 7 ∷ 9 ∷ 11 ∷ []
-unfolding untils seats seats_aloft asked_until turns turn runnable turns_for over_one table z select
+unfolding untils positions positions_in_flight asked_until turns turn runnable turns_for over_one table z select
 first_ends = refl
 
 second_waits : untils 1 ≡ 9 ∷ 9 ∷ 11 ∷ []
-unfolding untils seats seats_aloft asked_until turns turn runnable turns_for over_one table z select
+unfolding untils positions positions_in_flight asked_until turns turn runnable turns_for over_one table z select
 second_waits = refl
 
 -- by twos the third of three goes apart, and not the first
-by_rule : AreGathered 2 0 (seats (drawn 0) 0 (start None).public 0 (Together (x ∷ x ∷ []) None ∷ Alone x ∷ [])) (Ok select ∷ Ok select ∷ Ok select ∷ [])
-unfolding AreGathered seats seats_aloft select x
+by_rule : AreGathered 2 0 (positions (drawn 0) 0 (start None).public 0 (Together (x ∷ x ∷ []) None ∷ Alone x ∷ [])) (Ok select ∷ Ok select ∷ Ok select ∷ [])
+unfolding AreGathered positions positions_in_flight select x
 by_rule = (refl, (refl, (refl, tt)))
 
-against_rule : AreGathered 2 0 (seats (drawn 0) 0 (start None).public 0 (Alone x ∷ Together (x ∷ x ∷ []) None ∷ [])) (Ok select ∷ Ok select ∷ Ok select ∷ []) → ⊥
-unfolding AreGathered seats seats_aloft select x
+against_rule : AreGathered 2 0 (positions (drawn 0) 0 (start None).public 0 (Alone x ∷ Together (x ∷ x ∷ []) None ∷ [])) (Ok select ∷ Ok select ∷ Ok select ∷ []) → ⊥
+unfolding AreGathered positions positions_in_flight select x
 against_rule is = cc is.1.0
 
--- left behind three accesses, where the first asks first: it had ended, and isn't seen as one on its way, and the other one
+-- left after three accesses, where the first asks first: it had ended, and isn't seen as one on its way, and the other one
 -- hadn't
-left_at : ℕ → Seat
-left_at i = seat_aloft over_one 5 (z ∷ z ∷ []) (λ t. 0) (Some 3) i
+left_at : ℕ → Position
+left_at i = position_in_flight over_one 5 (z ∷ z ∷ []) (λ t. 0) (Some 3) i
 
 first_had : (Leaves : Public → Stmt → Seen → Type 0) → IsLeft Leaves (left_at 0).left (left_at 0) None select z.seen → Lawful (left_at 0).public 5 select z.seen
 unfolding left_at asked_until turns turn runnable turns_for over_one table z select
@@ -172,11 +172,11 @@ second_on Leaves (inr on) = on.1
 failed_first : Served
 failed_first = record { skeleton = skeleton select; seen = ended (Cut 1) }
 
--- it counts where their flight was left; one alone may be seen so behind any stop
-left_failed : cut_aloft (seats (λ i. i) 0 over_one 0 (Together (failed_first ∷ z ∷ []) (Some 2) ∷ [])) (failed_first ∷ z ∷ []) ≡ 1
-unfolding seats seats_aloft asked_until turns turn runnable turns_for over_one table z select failed_first cut_off
+-- it counts where their flight was left; one alone may be seen so after any stop
+left_failed : cut_in_flight (positions (λ i. i) 0 over_one 0 (Together (failed_first ∷ z ∷ []) (Some 2) ∷ [])) (failed_first ∷ z ∷ []) ≡ 1
+unfolding positions positions_in_flight asked_until turns turn runnable turns_for over_one table z select failed_first cut_off
 left_failed = refl
 
-alone_failed : cut_aloft (seats (λ i. i) 0 over_one 0 (Alone failed_first ∷ [])) (failed_first ∷ []) ≡ 0
-unfolding seats over_one table select failed_first cut_off
+alone_failed : cut_in_flight (positions (λ i. i) 0 over_one 0 (Alone failed_first ∷ [])) (failed_first ∷ []) ≡ 0
+unfolding positions over_one table select failed_first cut_off
 alone_failed = refl

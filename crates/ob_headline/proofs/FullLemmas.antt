@@ -12,7 +12,7 @@ use Rattle.ob_mean.specs.Replay.{cut_at, has_index, held_if, reads_of}
 use Rattle.ob_mean.specs.Verdict.{Accessed, accessed_now, gone, is_late, leaf_gone, seen_access}
 use Rattle.ob_script.proofs.Lengths.{length-count_part, length-path_reads}
 use Rattle.ob_script.specs.Script.{behind_change, flat_script, index_part_of, mutation_script, shape_script, whole_script, with_table}
-use Rattle.ob_store.specs.State.{Lie}
+use Rattle.ob_store.specs.State.{FalseRead}
 use Rattle.ob_vault.specs.Tied.{ReadsIn}
 use Rattle.ob_verdict.proofs.AccessedProof.{access_public}
 use Rattle.ob_verdict.proofs.LawfulProof.{heading_region, height_public, no_region_index, region_index}
@@ -34,7 +34,7 @@ pub met_full : (s : Session) (stmt : Stmt) → is_full_now s stmt ≡ true → m
 met_full s stmt full = ap (λ (b : Bool). if b then (served_full s stmt).seen else seen_now s stmt) full
 
 -- ---- the accesses of an access of an index
--- the reads, and the writes behind them
+-- the reads, and the writes after them
 abbrev reads_part : Public → (leaf : ℕ) → Stored ℕ → List Access
 reads_part p leaf t = count_part (t.held + 1) p.stash ++ each (4 * (height_of t.heading.capacity + 1)) (path_read t.held (height_of t.heading.capacity) leaf)
 
@@ -72,7 +72,7 @@ writes_none p leaf t =
     (each_none (4 * (height_of t.heading.capacity + 1)) (path_write t.held (height_of t.heading.capacity) leaf) (λ c. (refl, tt)))
     (each_none p.stash (write_at (t.held + 1)) (λ i. (refl, tt)))
 
--- a read among accesses is one of the first, where no read comes behind them
+-- a read among accesses is one of the first, where no read comes after them
 module _ (r : Access) (rest : List Access) (reads : is_read r ≡ true) where
   none_there : (x w : List Access) → NoReads w → x ++ r ∷ rest ≡ w → ⊥
   none_there [] [] off e = absurd (cc e)
@@ -88,7 +88,7 @@ module _ (r : Access) (rest : List Access) (reads : is_read r ≡ true) where
       let later = within_first x a w off (cc e) in
       (later.0, λ j. same j ∷ later.1 j)
 
-reads_first : (lie : Lie) (a w : List Access) → NoReads w → ReadsIn lie (a ++ w) → ReadsIn lie a
+reads_first : (lie : FalseRead) (a w : List Access) → NoReads w → ReadsIn lie (a ++ w) → ReadsIn lie a
 reads_first lie a w off reads =
     let first = within_first (Read lie.region lie.place) reads.rest refl lie.before a w off reads.is in
     record { rest = first.0; is = first.1 }
@@ -204,7 +204,7 @@ module _ (s : Session) (stmt : Stmt) (same : headings s.tables ≡ headings_of s
   asked_full full = ap (script s.public (skeleton stmt)) (met_full s stmt full) ∙ (full_parts full).part
 
   -- a changed block that it reads is one that it reads until then
-  pub met_reads : (lie : Lie) (before : List Access) → ReadsIn lie (before ++ script s.public (skeleton stmt) (seen_now s stmt)) → ReadsIn lie (before ++ met_script s stmt)
+  pub met_reads : (lie : FalseRead) (before : List Access) → ReadsIn lie (before ++ script s.public (skeleton stmt) (seen_now s stmt)) → ReadsIn lie (before ++ met_script s stmt)
   met_reads lie before reads = go (is_full_now s stmt) refl
     where
       go : (b : Bool) → is_full_now s stmt ≡ b → ReadsIn lie (before ++ met_script s stmt)

@@ -4,12 +4,12 @@ use Rattle.std.proofs.lemmas.List.{length-map}
 use Rattle.std.proofs.lemmas.List.Elements.{All-append, All-cons, All-nil, All-tail}
 use Rattle.ob_headline.proofs.SameEntries.{may_by, selects_one, selects_stay}
 use Rattle.ob_headline.specs.Disturbed.{Course, behind_together, course_alone, course_now, course_with, entries_now, entries_with, flown_meant, gathering, landed, meant_together, now_alone, turns_then}
-use Rattle.ob_headline.specs.Flights.{AreGathered, Seat, gathered_then, place_now, seats, seats_aloft}
+use Rattle.ob_headline.specs.Flights.{AreGathered, Position, gathered_then, place_now, positions, positions_in_flight}
 use Rattle.ob_mean.specs.Replay as Hows
 use Rattle.ob_script.specs.Flights.{Alone, Entry, flight_accesses, flight_public, words_from}
 
 -- ---- one place
--- a flight begins behind none that may go on with it
+-- a flight begins after none that may go on with it
 abbrev Fresh : (most g : ℕ) → Type 0
 Fresh most g = (g ≡ 0) ⊎ (most ≤ g)
 
@@ -40,16 +40,16 @@ then_none p place s not = sym (λ i. if not i then place + 1 else 0)
 
 -- ---- those that fly together
 module _ (most : ℕ) where
-  aloft : (p : Public) (m : ℕ) (flown : List Served) (words : ℕ → ℕ) (i : ℕ) (ws : List Stmt) (vs : List Seat) (more : List Spelt) → All (Flies p) ws → i + length ws ≤ most → AreGathered most (i + length ws) vs more
-      → AreGathered most i (seats_aloft p m flown words None i (length ws) ++ vs) (map Ok ws ++ more)
-  unfolding AreGathered seats_aloft
+  aloft : (p : Public) (m : ℕ) (flown : List Served) (words : ℕ → ℕ) (i : ℕ) (ws : List Stmt) (vs : List Position) (more : List Spelt) → All (Flies p) ws → i + length ws ≤ most → AreGathered most (i + length ws) vs more
+      → AreGathered most i (positions_in_flight p m flown words None i (length ws) ++ vs) (map Ok ws ++ more)
+  unfolding AreGathered positions_in_flight
   aloft p m flown words i [] vs more fly few rest = let same : i + 0 ≡ i = omega arith in subst (λ (n : ℕ). AreGathered most n vs more) same rest
   aloft p m flown words i (w ∷ ws) vs more fly few rest =
       let q = flight_public (length flown) p in
       let flies : may_fly q (skeleton w) ≡ true = may_by q p (skeleton w) refl ∙ All-head (Flies p) w ws fly in
       let count : i + length (w ∷ ws) ≡ (i + 1) + length ws = omega arith in (
         place_on most i q (skeleton w) flies (omega (arith, few)),
-        subst (λ (n : ℕ). AreGathered most n (seats_aloft p m flown words None (i + 1) (length ws) ++ vs) (map Ok ws ++ more)) (then_one q i (skeleton w) flies)
+        subst (λ (n : ℕ). AreGathered most n (positions_in_flight p m flown words None (i + 1) (length ws) ++ vs) (map Ok ws ++ more)) (then_one q i (skeleton w) flies)
             (aloft p m flown words (i + 1) ws vs more (All-tail (Flies p) w ws fly) (omega (arith, few)) (subst (λ (n : ℕ). AreGathered most n vs more) count rest)),
       )
 
@@ -58,15 +58,15 @@ module _ (most : ℕ) where
   count_then g (w ∷ ws) = length (w ∷ ws)
 
   together : (words : ℕ → ℕ) (s : Session) (t m g : ℕ) (ws : List Stmt) (es : List Entry) (more : List Spelt) → Fresh most g → All (Flies s.public) ws → length ws ≤ most
-      → ((n : ℕ) → AreGathered most (count_then g ws) (seats words (turns_then t s ws) (behind_together (words_from words t) s ws).public n es) more)
-      → AreGathered most g (seats words t s.public m (meant_together s ws ++ es)) (map Ok ws ++ more)
-  unfolding AreGathered seats seats_aloft
+      → ((n : ℕ) → AreGathered most (count_then g ws) (positions words (turns_then t s ws) (behind_together (words_from words t) s ws).public n es) more)
+      → AreGathered most g (positions words t s.public m (meant_together s ws ++ es)) (map Ok ws ++ more)
+  unfolding AreGathered positions positions_in_flight
   together words s t m g [] es more fresh fly few rest = rest m
   together words s t m g (w ∷ []) es more fresh fly few rest =
       let x = served Hows.Alone s w in
       let asked = m + length (script s.public x.skeleton x.seen) in (
         place_first most g s.public (skeleton w) fresh,
-        subst (λ (n : ℕ). AreGathered most n (seats words t (next s.public x.skeleton x.seen) asked es) more) (then_one s.public 0 (skeleton w) (All-head (Flies s.public) w [] fly)) (rest asked),
+        subst (λ (n : ℕ). AreGathered most n (positions words t (next s.public x.skeleton x.seen) asked es) more) (then_one s.public 0 (skeleton w) (All-head (Flies s.public) w [] fly)) (rest asked),
       )
   together words s t m g (w ∷ x ∷ ws) es more fresh fly few rest =
       let flown = flown_meant s (w ∷ x ∷ ws) in
@@ -75,10 +75,10 @@ module _ (most : ℕ) where
       let flies : may_fly q (skeleton w) ≡ true = may_by q s.public (skeleton w) refl ∙ All-head (Flies s.public) w (x ∷ ws) fly in
       let count : length (w ∷ x ∷ ws) ≡ 1 + length (x ∷ ws) = omega arith in
       let asked = m + length (flight_accesses s.public flown None (words_from words t)) in
-      let vs = seats words (turns_then t s (w ∷ x ∷ ws)) (behind_together (words_from words t) s (w ∷ x ∷ ws)).public asked es in
-      subst (λ (n : ℕ). AreGathered most g (seats_aloft s.public m flown (words_from words t) None 0 n ++ vs) (map Ok (w ∷ x ∷ ws) ++ more)) (sym long) (
+      let vs = positions words (turns_then t s (w ∷ x ∷ ws)) (behind_together (words_from words t) s (w ∷ x ∷ ws)).public asked es in
+      subst (λ (n : ℕ). AreGathered most g (positions_in_flight s.public m flown (words_from words t) None 0 n ++ vs) (map Ok (w ∷ x ∷ ws) ++ more)) (sym long) (
         place_first most g q (skeleton w) fresh,
-        subst (λ (n : ℕ). AreGathered most n (seats_aloft s.public m flown (words_from words t) None (0 + 1) (length (x ∷ ws)) ++ vs) (map Ok (x ∷ ws) ++ more)) (then_one q 0 (skeleton w) flies)
+        subst (λ (n : ℕ). AreGathered most n (positions_in_flight s.public m flown (words_from words t) None (0 + 1) (length (x ∷ ws)) ++ vs) (map Ok (x ∷ ws) ++ more)) (then_one q 0 (skeleton w) flies)
             (aloft s.public m flown (words_from words t) 1 (x ∷ ws) vs more (All-tail (Flies s.public) w (x ∷ ws) fly) (omega (arith, few)) (subst (λ (n : ℕ). AreGathered most n vs more) count (rest asked))),
       )
 
@@ -107,7 +107,7 @@ served_texts most words c (Ok stmt ∷ spelt) =
 module _ (most : ℕ) (some : 1 ≤ most) (words : ℕ → ℕ) where
   -- from a course on
   abbrev Agree : (g : ℕ) → Course → List Entry → List Spelt → Type 0
-  Agree g c es more = (m : ℕ) → AreGathered most g (seats words c.turns c.session.public m es) more
+  Agree g c es more = (m : ℕ) → AreGathered most g (positions words c.turns c.session.public m es) more
 
   abbrev Follows : List Spelt → Type 0
   Follows spelt = (c : Course) (g : ℕ) → Fresh most g → All (Flies c.session.public) c.waiting → length c.waiting < most → Agree g c (meant_entries most words c spelt) (map Ok c.waiting ++ served_texts most words c spelt)
@@ -117,7 +117,7 @@ module _ (most : ℕ) (some : 1 ≤ most) (words : ℕ → ℕ) where
     After flies = if flies then course_with most words c stmt else course_alone (landed words c) stmt
 
     alone_then : may_fly c.session.public (skeleton stmt) ≡ false → Agree g c ((meant_together c.session c.waiting ++ Alone (now_alone (landed words c) stmt) ∷ []) ++ meant_entries most words (After false) spelt) (map Ok c.waiting ++ Ok stmt ∷ served_texts most words (After false) spelt)
-    unfolding AreGathered seats
+    unfolding AreGathered positions
     alone_then not m =
         let x = now_alone (landed words c) stmt in
         let y : Entry = Alone x in
@@ -125,11 +125,11 @@ module _ (most : ℕ) (some : 1 ≤ most) (words : ℕ → ℕ) where
         let rest = meant_entries most words (After false) spelt in
         let more = served_texts most words (After false) spelt in
         let off : may_fly q (skeleton stmt) ≡ false = may_by q c.session.public (skeleton stmt) (together_tables (words_from words c.turns) c.session c.waiting fly) ∙ not in
-        subst (λ (es : List Entry). AreGathered most g (seats words c.turns c.session.public m es) (map Ok c.waiting ++ Ok stmt ∷ more)) (sym (append_assoc (meant_together c.session c.waiting) (y ∷ []) rest))
+        subst (λ (es : List Entry). AreGathered most g (positions words c.turns c.session.public m es) (map Ok c.waiting ++ Ok stmt ∷ more)) (sym (append_assoc (meant_together c.session c.waiting) (y ∷ []) rest))
         (together most words c.session c.turns m g c.waiting (y ∷ rest) (Ok stmt ∷ more) fresh fly (omega (arith, few)) (λ n. (
           place_alone most (count_then most g c.waiting) q (skeleton stmt) off,
           (let asked = n + length (script q x.skeleton x.seen) in
-              subst (λ (k : ℕ). AreGathered most k (seats words (After false).turns (After false).session.public asked rest) more) (then_none q 0 (skeleton stmt) off)
+              subst (λ (k : ℕ). AreGathered most k (positions words (After false).turns (After false).session.public asked rest) more) (then_none q 0 (skeleton stmt) off)
               (follows (After false) 0 (inl refl) (All-nil (Flies (After false).session.public)) (omega (arith, some)) asked)),
         )))
 
@@ -148,17 +148,17 @@ module _ (most : ℕ) (some : 1 ≤ most) (words : ℕ → ℕ) where
         long = length-append c.waiting (stmt ∷ [])
 
         go : (less : Bool) → nat_lt (length c.waiting + 1) most ≡ less
-            → AreGathered most g (seats words c.turns c.session.public m ((if less then [] else meant_together c.session (c.waiting ++ stmt ∷ [])) ++ meant_entries most words (if less then gathering stmt c else landed words (gathering stmt c)) spelt))
+            → AreGathered most g (positions words c.turns c.session.public m ((if less then [] else meant_together c.session (c.waiting ++ stmt ∷ [])) ++ meant_entries most words (if less then gathering stmt c else landed words (gathering stmt c)) spelt))
             (map Ok c.waiting ++ Ok stmt ∷ served_texts most words (if less then gathering stmt c else landed words (gathering stmt c)) spelt)
         go true is =
             let d = gathering stmt c in
-            subst (λ (l : List Spelt). AreGathered most g (seats words c.turns c.session.public m (meant_entries most words d spelt)) l) (ok_more c.waiting stmt (served_texts most words d spelt))
+            subst (λ (l : List Spelt). AreGathered most g (positions words c.turns c.session.public m (meant_entries most words d spelt)) l) (ok_more c.waiting stmt (served_texts most words d spelt))
             (follows d g fresh all (grind (arith, nat_tests, is, long)) m)
         go false is =
             let d = landed words (gathering stmt c) in
             let over : most ≤ length c.waiting + 1 = grind (arith, nat_tests, is) in
             let count = count_some most g c.waiting stmt in
-            subst (λ (l : List Spelt). AreGathered most g (seats words c.turns c.session.public m (meant_together c.session (c.waiting ++ stmt ∷ []) ++ meant_entries most words d spelt)) l) (ok_more c.waiting stmt (served_texts most words d spelt))
+            subst (λ (l : List Spelt). AreGathered most g (positions words c.turns c.session.public m (meant_together c.session (c.waiting ++ stmt ∷ []) ++ meant_entries most words d spelt)) l) (ok_more c.waiting stmt (served_texts most words d spelt))
             (together most words c.session c.turns m g (c.waiting ++ stmt ∷ []) (meant_entries most words d spelt) (served_texts most words d spelt) fresh all (omega (arith, few, long))
             (λ n. follows d (count_then most g (c.waiting ++ stmt ∷ [])) (inr (omega (arith, over, count))) (All-nil (Flies d.session.public)) (omega (arith, some)) n))
 
@@ -170,7 +170,7 @@ module _ (most : ℕ) (some : 1 ≤ most) (words : ℕ → ℕ) where
   gathers : (spelt : List Spelt) → Follows spelt
   unfolding AreGathered meant_entries served_texts
   gathers [] c g fresh fly few m =
-      subst (λ (es : List Entry). AreGathered most g (seats words c.turns c.session.public m es) (map Ok c.waiting ++ [])) (append-nil (meant_together c.session c.waiting))
+      subst (λ (es : List Entry). AreGathered most g (positions words c.turns c.session.public m es) (map Ok c.waiting ++ [])) (append-nil (meant_together c.session c.waiting))
       (together most words c.session c.turns m g c.waiting [] [] fresh fly (omega (arith, few)) (λ n. tt))
   gathers (Err at ∷ spelt) c g fresh fly few m =
       let d : Course = record (landed words c) { batch = None } in
@@ -178,13 +178,13 @@ module _ (most : ℕ) (some : 1 ≤ most) (words : ℕ → ℕ) where
       (λ n. gathers spelt d 0 (inl refl) (All-nil (Flies d.session.public)) (omega (arith, some)) n)
   gathers (Ok stmt ∷ spelt) c g fresh fly few m =
       elim (is_full_now (landed words c).session stmt) as (λ (full : Bool).
-      AreGathered most g (seats words c.turns c.session.public m (if full then meant_together c.session c.waiting ++ Alone (served_full (landed words c).session stmt) ∷ [] else entries_now most words c stmt ++ meant_entries most words (course_now most words c stmt) spelt))
+      AreGathered most g (positions words c.turns c.session.public m (if full then meant_together c.session c.waiting ++ Alone (served_full (landed words c).session stmt) ∷ [] else entries_now most words c stmt ++ meant_entries most words (course_now most words c stmt) spelt))
       (map Ok c.waiting ++ (if full then [] else Ok stmt ∷ served_texts most words (course_now most words c stmt) spelt))) [
         | true ↦ together most words c.session c.turns m g c.waiting (Alone (served_full (landed words c).session stmt) ∷ []) [] fresh fly (omega (arith, few)) (λ n. tt)
         | false ↦ now_then spelt (gathers spelt) c stmt g fresh fly few (may_fly c.session.public (skeleton stmt)) refl m
       ]
 
-  -- the places of the seats of entries that are meant are as the rule says
+  -- the places of the positions of entries that are meant are as the rule says
   pub meant_is_gathered : (s : Session) (m : ℕ) (spelt : List Spelt)
-      → AreGathered most 0 (seats words 0 s.public m (meant_entries most words (first_course s) spelt)) (served_texts most words (first_course s) spelt)
+      → AreGathered most 0 (positions words 0 s.public m (meant_entries most words (first_course s) spelt)) (served_texts most words (first_course s) spelt)
   meant_is_gathered s m spelt = gathers spelt (first_course s) 0 (inl refl) (All-nil (Flies s.public)) (omega (arith, some)) m

@@ -140,7 +140,7 @@ module _ (d : Draws) (p : Public) (m : ℕ) (ts : Tables) (flat : AreFlat (headi
 pub keeps_step : (s : Session) (stmt : Stmt) → AreFlat (headings s.tables) → InStep s → AreApart (headings s.tables) → InStep (after Alone s stmt)
 keeps_step s stmt flat same apart = steps s.draws s.public s.asked s.tables flat same stmt apart
 
--- so they are behind one that is served with another
+-- so they are after one that is served with another
 pub joins_step : (s : Session) (stmt : Stmt) → AreFlat (headings s.tables) → InStep s → IsSome (inserts_into (skeleton stmt)) → InStep (after With s stmt)
 joins_step s (Insert table columns values) flat same inserts = stays s.draws s.public s.asked s.tables flat same table columns values
 joins_step s other flat same inserts = absurd (cc inserts)

@@ -1,5 +1,5 @@
--- Where an access of an index writes, and which regions are an index's behind a statement.
-use Rattle.ob_headline.proofs.Words.{Access, AfterCount, ap, arith, Bool, by_shape, columns_of, count_part, Cut, Discard, each, End, false, Flat, height_of, if◌then◌else◌, Indexed, inl, inr, is_access, Joined, List, Make, next, None, not, Open, Option, path_read, path_write, Public, Read, read_at, refl, script, Seen, Shape, Skeleton, slice_get, Some, Static, Stored, stored_at, stored_regions, subst, suc, sym, Table, tables_after, tables_then, take, true, Whole, Write, write_at, zero, ℕ, [], ⊤, ◌*◌, ◌++◌, ◌+◌, ◌∙◌, ◌∷◌, ◌≡◌, ◌≤◌, ◌⊎◌}
+-- Where an access of an index writes, and which regions are an index's after a statement.
+use Rattle.ob_headline.proofs.Words.{Access, AfterCount, ap, arith, Bool, by_shape, columns_of, count_part, Cut, Discard, each, End, false, Flat, height_of, if◌then◌else◌, Indexed, inl, inr, is_access, Batched, List, Make, next, None, not, Open, Option, path_read, path_write, Public, Read, read_at, refl, script, Seen, Shape, Skeleton, slice_get, Some, Static, Stored, stored_at, stored_regions, subst, suc, sym, Table, tables_after, tables_then, take, true, Whole, Write, write_at, zero, ℕ, [], ⊤, ◌*◌, ◌++◌, ◌+◌, ◌∙◌, ◌∷◌, ◌≡◌, ◌≤◌, ◌⊎◌}
 use Rattle.std.specs.Prelude.{bytes_eq, filter}
 use Rattle.std.proofs.Common.{cond}
 use Rattle.ob_base.specs.declared.skeleton.Skeleton.TheVariants.{Create, Insert, Update, Delete, Drop as DropTable, Rows, Groups}
@@ -43,7 +43,7 @@ module _ (P : ℕ → Type 0) where
   onto_until Static all a = tt
   onto_until Whole all a = a
   onto_until AfterCount all a = a
-  onto_until Joined all a = tt
+  onto_until Batched all a = tt
   onto_until (Cut k) all a = onto_first k all a
 
   pub onto_at : (xs : List Access) (i q x : ℕ) → Onto xs → slice_get xs i ≡ Some (Write q x) → P q

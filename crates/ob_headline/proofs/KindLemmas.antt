@@ -14,7 +14,7 @@ use Rattle.ob_headline.proofs.AloneRuns.{few_spelt, headline_alone}
 use Rattle.ob_script.specs.Script.{whole_script, behind_count, with_table, extent_of, blocks_of, index_part_of, joined_extent, rows_width}
 use Rattle.ob_script.specs.Trace.{Served as Entry}
 
--- nothing but how it ended
+-- nothing except how it ended
 abbrev ended_so : End → Seen
 ended_so end = record { k = None; plan = None; then = None; leaf = None; end = end }
 

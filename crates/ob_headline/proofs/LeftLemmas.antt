@@ -1,4 +1,4 @@
--- What lies in a store that tells, once a run ended and behind each of its statements, is sealed under the number of a write
+-- What lies in a store that tells, once a run ended and after each of its statements, is sealed under the number of a write
 -- of the run that no other has.
 use Rattle.ob_headline.proofs.Words.{Access, ap, arith, asked_by, at_of, Base, Bool, get_front, inl, inr, IsSealed, IsTrue, keys_by, KeySet, length, List, Public, refl, slice_get, Some, SomeRun, Start, StoreState, sym, take, take-append-le, true, words_of, Write, writes, ℕ, ◌++◌, ◌+◌, ◌-◌, ◌<◌, ◌∙◌, ◌≡◌}
 use Rattle.std.proofs.lemmas.Option.{slice_get_within}
@@ -30,7 +30,7 @@ module _ (good : List ℕ → Bool) (keys : KeySet) (start : Start) (old new : S
     | inr given ↦ absurd (given.1 (given.0 ∙ fresh))
   ]
 
--- a block that was written in a first part is shown behind it
+-- a block that was written in a first part is shown after it
 shown_earlier : (good : List ℕ → Bool) (keys : KeySet) (start : Start) (Failed : Type 0) (first rest all : List Access) (region place : ℕ) (block : List ℕ) → all ≡ first ++ rest
     → (is : IsShown good keys start Failed all region place block) → is.position < length first → IsShown good keys start Failed first region place block
 shown_earlier good keys start Failed first rest all region place block whole is less =

@@ -13,7 +13,7 @@ pub mod FlightWrites
 pub mod SameAlone
 pub mod GatheredMeant
 pub mod OneByOneLemmas
-pub mod FlightSeats
+pub mod FlightPositions
 pub mod UntilLemmas
 pub mod FlightLeft
 pub mod SameEntries

@@ -1,5 +1,5 @@
 -- Each statement that accesses no index writes to those regions alone that it makes.
-use Rattle.ob_headline.proofs.Words.{Access, AfterCount, Answer, append-nil, append_assoc, arith, Bool, buffered_blocks, by_shape, columns_of, Continuous, count_part, Cut, Discard, discard_at, each, End, Err, false, Flat, FliesNone, Gathering, gathering_after, Hash, height_of, Holds, if◌then◌else◌, Indexed, insert_part, is_access, join_part, Joined, Large, Lawful, length, List, Make, next, None, Ok, Open, Option, option_map_or, Plan, Public, Read, read_at, refl, rewrite_part, script, Seen, seen_by, Shape, Skeleton, slice_get, Small, Some, SomeRun, Spelt, Static, Stmt, Stored, stored_at, stored_regions, subst, suc, sym, tables_after, take, true, Whole, Write, write_at, zero, ℕ, [], ⊤, ◌*◌, ◌++◌, ◌+◌, ◌-◌, ◌<◌, ◌∙◌, ◌∷◌, ◌≡◌, ◌≤◌}
+use Rattle.ob_headline.proofs.Words.{Access, AfterCount, Answer, append-nil, append_assoc, arith, Bool, buffered_blocks, by_shape, columns_of, Continuous, count_part, Cut, Discard, discard_at, each, End, Err, false, Flat, FliesNone, Gathering, gathering_after, Hash, height_of, Holds, if◌then◌else◌, Indexed, insert_part, is_access, join_part, Batched, Large, Lawful, length, List, Make, next, None, Ok, Open, Option, option_map_or, Plan, Public, Read, read_at, refl, rewrite_part, script, Seen, seen_by, Shape, Skeleton, slice_get, Small, Some, SomeRun, Spelt, Static, Stmt, Stored, stored_at, stored_regions, subst, suc, sym, tables_after, take, true, Whole, Write, write_at, zero, ℕ, [], ⊤, ◌*◌, ◌++◌, ◌+◌, ◌-◌, ◌<◌, ◌∙◌, ◌∷◌, ◌≡◌, ◌≤◌}
 use Rattle.std.proofs.Common.{◌/◌, ◌%◌, min}
 use Rattle.std.specs.Int.{div_ceil}
 use Rattle.ob_base.specs.Indexes.{tree_blocks}
@@ -221,7 +221,7 @@ module _ (n g : ℕ) (from : n ≤ g) where
       let emitted = emission_part g (result_blocks p plan k (extent_of t)) in
       subst (InTurn n g) (sym (append_assoc part emitted rest)) (plans (emitted ++ rest) (goes_on n (g + 1) emitted rest (emits n (g + 1) g (result_blocks p plan k (extent_of t))) onward) p plan k t)
 
--- a second plan comes behind a first one alone
+-- a second plan comes after a first one alone
 abbrev pub InOrder : Option Plan → Option Plan → Type 0
 InOrder None (Some second) = ⊥
 InOrder None None = ⊤
@@ -358,7 +358,7 @@ module _ (p : Public) (seen : Seen) (order : InOrder seen.plan seen.then) where
   until Static all a = nothing p.next_region p.next_region
   until Whole all a = a
   until AfterCount all a = a
-  until Joined all a = nothing p.next_region p.next_region
+  until Batched all a = nothing p.next_region p.next_region
   until (Cut k) all a = first_part p.next_region p.next_region k all a
 
   scripts : (s : Skeleton) → is_access p s ≡ false → InTurn p.next_region p.next_region (script p s seen)

@@ -1,7 +1,7 @@
 -- Texts are answered before more is read.
 use Rattle.ob_headline.proofs.Words.{after_line, ap, append-nil, append_assoc, arith, Bool, drop, false, inl, inr, length, length-append, List, Public, refl, subst, suc, sym, take, take-append-drop, take-append-le, texts_in, true, zero, ℕ, [], ◌++◌, ◌-◌, ◌<◌, ◌==◌, ◌∙◌, ◌∷◌, ◌≡◌, ◌≤◌}
 use Rattle.ob_headline.proofs.TextLemmas.{texts_of-append, texts_of-nil}
-use Rattle.ob_headline.specs.Batches.{AllInsert, AnsweredBut, Wait}
+use Rattle.ob_headline.specs.Batches.{AllInsert, AnsweredExcept, Wait}
 use Rattle.ob_headline.specs.Statements.{SpellFirst}
 use Rattle.ob_headline.specs.Texts.{rest_of, texts_of}
 use Rattle.ob_headline.specs.Words.{Begins, before_read}
@@ -28,7 +28,7 @@ pub prompt_all : (bytes passed ahead : List ℕ) (gave : ℕ) → bytes ≡ pass
 prompt_all bytes passed ahead gave is late =
     subst (λ (xs : List (List ℕ)). Begins (texts_in false (before_read gave bytes)) xs) (append-nil (texts_of [] passed)) (prompt_by bytes passed ahead gave [] is late)
 
--- ---- behind the first line
+-- ---- after the first line
 length-after_line-step : (t : Bool) (x : ℕ) (xs : List ℕ) → (x == 10) ≡ t → length (after_line xs) ≤ length xs → length (after_line (x ∷ xs)) ≤ length (x ∷ xs)
 unfolding after_line
 length-after_line-step true x xs is deep = rw is (omega arith)
@@ -74,7 +74,7 @@ unfolding SpellFirst AllInsert
 none_waits most some = record { few = omega (arith, some); stmts = []; whole = refl; spell = tt; table = []; insert = tt }
 
 -- none does where all were answered
-pub all_answered : (p : Public) (most flown : ℕ) (texts served : List (List ℕ)) → 1 ≤ most → Begins texts served → AnsweredBut p most flown texts served
+pub all_answered : (p : Public) (most flown : ℕ) (texts served : List (List ℕ)) → 1 ≤ most → Begins texts served → AnsweredExcept p most flown texts served
 all_answered p most flown texts served some begins = record {
   waiting = [];
   wait = inl (none_waits most some);
@@ -82,7 +82,7 @@ all_answered p most flown texts served some begins = record {
 }
 
 -- without batches and flights none may
-pub none_may : {p : Public} (texts served : List (List ℕ)) → AnsweredBut p 1 1 texts served → Begins texts served
+pub none_may : {p : Public} (texts served : List (List ℕ)) → AnsweredExcept p 1 1 texts served → Begins texts served
 none_may texts served waits = go waits.waiting (elim waits.wait [ inl wait ↦ wait.few | inr wait ↦ wait.few ]) waits.answered
   where
     go : (waiting : List (List ℕ)) → length waiting < 1 → Begins texts (served ++ waiting) → Begins texts served
@@ -96,7 +96,7 @@ prompt_line gave taken served late =
     let before : after_line (before_read gave taken) ≡ [] = after_line-before_read gave taken ∙ ap (λ (n : ℕ). take n (after_line taken)) none in
     subst (λ (xs : List (List ℕ)). Begins xs served) (sym (ap (texts_of []) before ∙ texts_of-nil [])) (record { rest = served; joined = refl })
 
-pub waits_behind : (p : Public) (most flown gave : ℕ) (taken bytes : List ℕ) (served : List (List ℕ)) → after_line taken ≡ bytes → AnsweredBut p most flown (texts_in false (before_read gave bytes)) served
-    → AnsweredBut p most flown (texts_in false (after_line (before_read gave taken))) served
+pub waits_behind : (p : Public) (most flown gave : ℕ) (taken bytes : List ℕ) (served : List (List ℕ)) → after_line taken ≡ bytes → AnsweredExcept p most flown (texts_in false (before_read gave bytes)) served
+    → AnsweredExcept p most flown (texts_in false (after_line (before_read gave taken))) served
 waits_behind p most flown gave taken bytes served is waits =
-    subst (λ (xs : List ℕ). AnsweredBut p most flown (texts_in false xs) served) (sym (after_line-before_read gave taken ∙ ap (before_read gave) is)) waits
+    subst (λ (xs : List ℕ). AnsweredExcept p most flown (texts_in false xs) served) (sym (after_line-before_read gave taken ∙ ap (before_read gave) is)) waits

@@ -1,5 +1,5 @@
 -- Two runs that came to their end, and of which no text was answered that the store failed.
-use Rattle.ob_headline.proofs.Words.{AfterCount, Answer, ap, append-nil, arith, asked_by, BadKey, Base, Bool, Continuous, Cut, End, Ending, Err, failures, false, FliesNone, Gathering, gathering_after, goes_into, Hash, Headline, Holds, if◌then◌else◌, inl, inr, is_access, is_cut, is_joined, is_none, is_some, IsSome, IsTrue, Joined, Joins, KeySet, Large, Lawful, length, List, next, None, not, Ok, Option, outcome_failures, Outside, Plan, Public, Ran, refl, Refusal, refusal_now, Refused, Report, script, Seen, seen_by, Skeleton, skeleton, Small, Some, SomeRun, Spelt, Static, status_of, Stmt, StoreFault, subst, sym, trace, true, Usage, Whole, ℕ, [], ◌&&◌, ◌++◌, ◌+◌, ◌∙◌, ◌∷◌, ◌≡◌, ◌≤◌, ◌⊎◌}
+use Rattle.ob_headline.proofs.Words.{AfterCount, Answer, ap, append-nil, arith, asked_by, BadKey, Base, Bool, Continuous, Cut, End, Ending, Err, failures, false, FliesNone, Gathering, gathering_after, goes_into, Hash, Headline, Holds, if◌then◌else◌, inl, inr, is_access, is_cut, is_joined, is_none, is_some, IsSome, IsTrue, Batched, Joins, KeySet, Large, Lawful, length, List, next, None, not, Ok, Option, outcome_failures, Outside, Plan, Public, Ran, refl, Refusal, refusal_now, Refused, Report, script, Seen, seen_by, Skeleton, skeleton, Small, Some, SomeRun, Spelt, Static, status_of, Stmt, StoreFault, subst, sym, trace, true, Usage, Whole, ℕ, [], ◌&&◌, ◌++◌, ◌+◌, ◌∙◌, ◌∷◌, ◌≡◌, ◌≤◌, ◌⊎◌}
 use Rattle.std.proofs.Common.{◌||◌}
 use Rattle.ob_base.specs.declared.refusal.Stop.TheVariants as Stops
 use Rattle.ob_base.specs.declared.skeleton.Skeleton.TheVariants as K
@@ -63,7 +63,7 @@ module _ (p : Public) (stmt : Stmt) (here : Seen) (plain : IsPlain p stmt) where
 -- the end of a statement by its early refusal, and by whether it goes into the batch that is gathered
 abbrev end_by : (early goes : Bool) → End
 end_by true goes = Static
-end_by false true = Joined
+end_by false true = Batched
 end_by false false = Whole
 
 -- by what it joins or doesn't
@@ -75,7 +75,7 @@ whole_by : (goes : Bool) → false ≡ (goes && true) → Whole ≡ end_by false
 whole_by true joins = absurd (cc joins)
 whole_by false joins = refl
 
-joined_by : (goes early : Bool) → true ≡ (goes && not early) → Joined ≡ end_by early goes
+joined_by : (goes early : Bool) → true ≡ (goes && not early) → Batched ≡ end_by early goes
 joined_by true true joins = absurd (cc joins)
 joined_by true false joins = refl
 joined_by false true joins = absurd (cc joins)
@@ -91,7 +91,7 @@ module _ (p : Public) (m : ℕ) (g : Option Gathering) (stmt : Stmt) (here : See
   end_is Whole true is now ends = let static = lawful.static.1 now in absurd (cc (static, is))
   end_is Whole false is now ends = whole_by (goes_into p g (skeleton stmt)) (joins_at Whole false is now)
   end_is AfterCount early is now ends = absurd ends
-  end_is Joined early is now ends = joined_by (goes_into p g (skeleton stmt)) early (joins_at Joined early is now)
+  end_is Batched early is now ends = joined_by (goes_into p g (skeleton stmt)) early (joins_at Batched early is now)
   end_is (Cut n) early is now ends = absurd (cc (uncut, ap is_cut is))
 
 plain_of : (refused goes : Bool) (here : Seen) → here.k ≡ None → here.plan ≡ None → here.then ≡ None → here.leaf ≡ None → here.end ≡ end_by refused goes → here ≡ seen_plainly refused goes
@@ -107,7 +107,7 @@ shows_plainly p m g stmt here lawful joins plain uncut =
 
 -- without batches none is served with another
 unjoined : (p : Public) (stmt : Stmt) (end : End) → p.batch ≡ None → EndsUncounted p stmt end → is_joined end ≡ false
-unjoined p stmt Joined none ends = let batched = ends.batched in absurd (cc (ap is_some none, batched))
+unjoined p stmt Batched none ends = let batched = ends.batched in absurd (cc (ap is_some none, batched))
 unjoined p stmt other none ends = refl
 
 pub shows_alone : (p : Public) (m : ℕ) (stmt : Stmt) (here : Seen) → p.batch ≡ None → Lawful p m stmt here → IsPlain p stmt → is_cut here.end ≡ false → here ≡ plainly p m None stmt

@@ -1,5 +1,5 @@
 -- Runs that save their tables answer as one run does over the texts that took effect, in whichever way each of them ended.
-use Rattle.ob_headline.proofs.Words.{Access, after, after_all, after_room, Answer, AnswersFrom, ap, AreAlike, AreFlat, arith, Base, batch_most, Begun, Bool, Closed, Closing, closing_named, Config, drawing, Err, false, FliesNone, flying, Fresh, fresh, headings, if◌then◌else◌, inl, inr, InUse, is_full_now, IsTrue, KeptRegion, KeySet, length, List, Mark, nat_lt, nat_tests, None, Ok, Opened, Option, plain, public_with, refl, RunSaved, Saved, seats_of, Served, Session, session_at, Some, Spelt, start, Stmt, StoreState, subst, sym, Tables, Text, trace, trace_of, true, words_of, ℕ, [], ◌++◌, ◌+◌, ◌<◌, ◌^◌, ◌∙◌, ◌∷◌, ◌≡◌, ◌≤◌}
+use Rattle.ob_headline.proofs.Words.{Access, after, after_all, after_room, Answer, AnswersFrom, ap, AreAlike, AreFlat, arith, Base, batch_most, Begun, Bool, Closed, Closing, closing_named, Config, drawing, Err, false, FliesNone, flying, Fresh, fresh, headings, if◌then◌else◌, inl, inr, InUse, is_full_now, IsTrue, KeptRegion, KeySet, length, List, Mark, nat_lt, nat_tests, None, Ok, Opened, Option, plain, public_with, refl, RunSaved, Saved, positions_of, Served, Session, session_at, Some, Spelt, start, Stmt, StoreState, subst, sym, Tables, Text, trace, trace_of, true, words_of, ℕ, [], ◌++◌, ◌+◌, ◌<◌, ◌^◌, ◌∙◌, ◌∷◌, ◌≡◌, ◌≤◌}
 use Rattle.ob_headline.proofs.AlikeSessions.{grows, keeps_plain}
 use Rattle.ob_headline.proofs.AsOne.{none_there, unlied}
 use Rattle.ob_headline.proofs.BeginsAlike.{Begins, begins_anew, begins_reopened}
@@ -20,7 +20,7 @@ use Rattle.ob_mean.specs.Replay.{Alone}
 use Rattle.ob_reopen.specs.Saved.{RestsBy}
 use Rattle.ob_verdict.proofs.AlikeTables.{alike_chained}
 
--- ---- texts one behind the other
+-- ---- texts one after the other
 step_is : (t : Session) (x : Spelt) (answer : Option Answer) (xs : List Spelt) → TakesEffect t x answer → after_all t (x ∷ xs) [] ≡ after_all (session_behind t x) xs []
 step_is t (Ok stmt) None xs takes = after_room t stmt xs [] takes
 step_is t (Ok stmt) (Some one) xs takes = after_room t stmt xs [] takes.0
@@ -178,11 +178,11 @@ module _ (words : List Text) (secret : List ℕ) (one : OneSaved words) (run : S
   answered : AnswersAlone run.session.ending s run.session.story.spelt behind.broken run.session.story.answers all run.session.story.part
   answered =
       as_alone (words_of base) 0 run.session.ending s run.session.story.spelt behind.broken run.session.story.answers all run.session.story.part are
-      (subst (λ (es : List Entry). AnswersFrom run.session.ending (seats_of base es) s run.session.story.spelt behind.broken run.session.story.answers all run.session.story.part) ran.entries behind.answered)
+      (subst (λ (es : List Entry). AnswersFrom run.session.ending (positions_of base es) s run.session.story.spelt behind.broken run.session.story.answers all run.session.story.part) ran.entries behind.answered)
 
-  left_tables : left_by behind.more (seats_of base run.session.story.entries) s run.session.story.spelt run.session.story.answers behind.broken ≡ left_alone behind.more s run.session.story.spelt run.session.story.answers behind.broken
+  left_tables : left_by behind.more (positions_of base run.session.story.entries) s run.session.story.spelt run.session.story.answers behind.broken ≡ left_alone behind.more s run.session.story.spelt run.session.story.answers behind.broken
   left_tables =
-      ap (λ (es : List Entry). left_by behind.more (seats_of base es) s run.session.story.spelt run.session.story.answers behind.broken) ran.entries
+      ap (λ (es : List Entry). left_by behind.more (positions_of base es) s run.session.story.spelt run.session.story.answers behind.broken) ran.entries
       ∙ left_is (words_of base) 0 behind.more run.session.ending s run.session.story.spelt behind.broken run.session.story.answers all run.session.story.part are answered
 
   leaves_session : Leaves words secret one.keeper1.held one.new.store.kept t (MayTake (batch_most run.base.public) run.session.ending run.session.story) (λ more. effects_of more run.session.story.spelt run.session.story.answers)
@@ -242,7 +242,7 @@ none_have : {words : List Text} (runs : List (OneSaved words)) → MayHaveAll []
 none_have [] = tt
 none_have (one ∷ runs) = ((λ behind is. absurd (cc is)), none_have runs)
 
--- a run, and those behind it
+-- a run, and those after it
 module _ (words : List Text) (secret : List ℕ) (one : OneSaved words) (runs : List (OneSaved words)) (held : Option Mark) (kept : ℕ → Option KeptRegion) (t : Session) (leaves : Leaves words secret one.keeper1.held one.new.store.kept t (MayHaveMore one.run.ran) (λ more. saved_effects more one.run.ran))
     (follows : (u : Session) → Waits words secret one.keeper1.held one.new.store.kept u → InOne words secret one.keeper1.held one.new.store.kept u runs) where
   abbrev here : List Effect

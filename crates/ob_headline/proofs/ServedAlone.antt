@@ -3,7 +3,7 @@
 use Rattle.ob_headline.proofs.Words.{after, after_all, after_room, Answer, AnswersFrom, AnswersIn, ap, AreEntries, AreSeen, arith, Base, Bool, Broken, Ending, Err, false, FliesNone, Gathering, gathering_after, if◌then◌else◌, is_failed, is_full_now, IsTrue, Joins, Lawful, length, List, most_of, next, None, Ok, Option, Public, refl, refusal_now, Refused, script, Seen, seen_or_cut, Served, served, Session, session_after, skeleton, Some, Spelt, Stmt, StoreFault, Story, subst, suc, sym, take, trace, trace_alone, trace_of, words_of, zero, ℕ, [], ◌++◌, ◌+◌, ◌-◌, ◌∙◌, ◌∷◌, ◌≡◌, ◌⊎◌}
 use Rattle.std.specs.Prelude.{◌↔◌}
 use Rattle.ob_headline.specs.Accesses.{Says}
-use Rattle.ob_headline.specs.Flights.{Entered, Seat, seats, served_by}
+use Rattle.ob_headline.specs.Flights.{Entered, Position, positions, served_by}
 use Rattle.ob_headline.specs.Meaning.{AnswersLast, BeginsAnswer, StopsAt}
 use Rattle.ob_headline.specs.Words.{refused_at}
 use Rattle.ob_mean.specs.Replay.{How, IsCutOff, head_of, rest_of}
@@ -44,8 +44,8 @@ SeenAlone Leaves p m g (Ok stmt ∷ spelt) (one ∷ answers) (x ∷ seen) =
     × SeenAlone Leaves (next p x.skeleton x.seen) (m + length (script p x.skeleton x.seen)) (gathering_after p m g stmt x.seen.end) spelt answers seen
 
 pub seen_alone : (Leaves : Public → Stmt → Seen → Type 0) (words : ℕ → ℕ) (t : ℕ) (p : Public) (m : ℕ) (g : Option Gathering) (spelt : List Spelt) (answers : List Answer) (seen : List Served)
-    → AreSeen Leaves (seats words t p m (all_alone seen)) g spelt answers seen → SeenAlone Leaves p m g spelt answers seen
-unfolding AreSeen SeenAlone seats
+    → AreSeen Leaves (positions words t p m (all_alone seen)) g spelt answers seen → SeenAlone Leaves p m g spelt answers seen
+unfolding AreSeen SeenAlone positions
 seen_alone Leaves words t p m g [] answers seen are = are
 seen_alone Leaves words t p m g (Err at ∷ spelt) [] seen are = seen_alone Leaves words t p m None spelt [] seen are
 seen_alone Leaves words t p m g (Err at ∷ spelt) (one ∷ answers) seen are = (are.0, seen_alone Leaves words t p m None spelt answers seen are.1)
@@ -114,47 +114,47 @@ AnswersAlone ending s (Ok stmt ∷ spelt) broken (one ∷ more) (x ∷ seen) par
     × AnswersAlone ending (after (head_of broken) s stmt) spelt (rest_of broken) more seen part
 
 -- by what each statement goes
-abbrev pub alone_from : (words : ℕ → ℕ) → (t : ℕ) → Session → List Served → List Seat
-alone_from words t s seen = seats words t s.public s.asked (all_alone seen)
+abbrev pub alone_from : (words : ℕ → ℕ) → (t : ℕ) → Session → List Served → List Position
+alone_from words t s seen = positions words t s.public s.asked (all_alone seen)
 
 module _ (words : ℕ → ℕ) (t : ℕ) where
   abbrev Goes : (ending : Ending) → Session → List Served → List Spelt → Broken → List Answer → List Served → (part : List ℕ) → Type 0
   Goes ending s by spelt broken answers seen part = AnswersFrom ending (alone_from words t s by) s spelt broken answers seen part
 
   begins_alone : (ending : Ending) (s : Session) (x : Spelt) (behind : List Spelt) (seen : List Served) (part : List ℕ) → BeginsAnswer ending (alone_from words t s seen) s x behind seen part → BeginsAlone ending s x seen part
-  unfolding seats
+  unfolding positions
   begins_alone ending s (Err at) behind seen part begins = begins
   begins_alone ending s (Ok stmt) behind [] part begins = absurd begins
   begins_alone ending s (Ok stmt) behind (x ∷ seen) part begins = begins
 
   alone_begins : (ending : Ending) (s : Session) (x : Spelt) (behind : List Spelt) (seen : List Served) (part : List ℕ) → BeginsAlone ending s x seen part → BeginsAnswer ending (alone_from words t s seen) s x behind seen part
-  unfolding seats
+  unfolding positions
   alone_begins ending s (Err at) behind seen part begins = begins
   alone_begins ending s (Ok stmt) behind [] part begins = absurd begins
   alone_begins ending s (Ok stmt) behind (x ∷ seen) part begins = begins
 
-  -- what is public behind a statement, and how many accesses were asked, are those of the model
-  abbrev seats_then : Session → Served → List Served → List Seat
-  seats_then s x seen = seats words t (next s.public x.skeleton x.seen) (s.asked + length (script s.public x.skeleton x.seen)) (all_alone seen)
+  -- what is public after a statement, and how many accesses were asked, are those of the model
+  abbrev positions_then : Session → Served → List Served → List Position
+  positions_then s x seen = positions words t (next s.public x.skeleton x.seen) (s.asked + length (script s.public x.skeleton x.seen)) (all_alone seen)
 
   is_served : (s : Session) (stmt : Stmt) (how : How) (x : Served) → x.skeleton ≡ skeleton stmt → x.seen ≡ seen_or_cut how s stmt → x ≡ served how s stmt
   is_served s stmt how x sk here = λ i. record { skeleton = sk i; seen = here i }
 
   pub as_alone : (ending : Ending) (s : Session) (spelt : List Spelt) (broken : Broken) (answers : List Answer) (seen : List Served) (part : List ℕ)
       → AreOf spelt seen → Goes ending s seen spelt broken answers seen part → AnswersAlone ending s spelt broken answers seen part
-  unfolding AreOf AnswersFrom AnswersAlone seats
+  unfolding AreOf AnswersFrom AnswersAlone positions
   as_alone ending s [] broken answers seen part of all = all
   as_alone ending s (x ∷ spelt) broken [] seen part of all = begins_alone ending s x spelt seen part all
   as_alone ending s (Err at ∷ spelt) broken (one ∷ more) seen part of all = (all.0, as_alone ending s spelt (rest_of broken) more seen part of all.1)
   as_alone ending s (Ok stmt ∷ spelt) broken (one ∷ more) [] part of all = absurd all
   as_alone ending s (Ok stmt ∷ spelt) broken (one ∷ more) (x ∷ seen) part of all =
       let how = head_of broken in
-      let rest = subst (λ (y : Served). AnswersFrom ending (seats_then s y seen) (after how s stmt) spelt (rest_of broken) more seen part) (is_served s stmt how x of.0 all.3) all.4 in
+      let rest = subst (λ (y : Served). AnswersFrom ending (positions_then s y seen) (after how s stmt) spelt (rest_of broken) more seen part) (is_served s stmt how x of.0 all.3) all.4 in
       (all.0, all.1, all.2, all.3, as_alone ending (after how s stmt) spelt (rest_of broken) more seen part of.1 rest)
 
   pub from_alone : (ending : Ending) (s : Session) (spelt : List Spelt) (broken : Broken) (answers : List Answer) (seen : List Served) (part : List ℕ)
       → AreOf spelt seen → AnswersAlone ending s spelt broken answers seen part → Goes ending s seen spelt broken answers seen part
-  unfolding AreOf AnswersFrom AnswersAlone seats
+  unfolding AreOf AnswersFrom AnswersAlone positions
   from_alone ending s [] broken answers seen part of all = all
   from_alone ending s (x ∷ spelt) broken [] seen part of all = alone_begins ending s x spelt seen part all
   from_alone ending s (Err at ∷ spelt) broken (one ∷ more) seen part of all = (all.0, from_alone ending s spelt (rest_of broken) more seen part of all.1)
@@ -162,21 +162,21 @@ module _ (words : ℕ → ℕ) (t : ℕ) where
   from_alone ending s (Ok stmt ∷ spelt) broken (one ∷ more) (x ∷ seen) part of all =
       let how = head_of broken in
       let rest = from_alone ending (after how s stmt) spelt (rest_of broken) more seen part of.1 all.4 in
-      (all.0, all.1, all.2, all.3, subst (λ (y : Served). AnswersFrom ending (seats_then s y seen) (after how s stmt) spelt (rest_of broken) more seen part) (sym (is_served s stmt how x of.0 all.3)) rest)
+      (all.0, all.1, all.2, all.3, subst (λ (y : Served). AnswersFrom ending (positions_then s y seen) (after how s stmt) spelt (rest_of broken) more seen part) (sym (is_served s stmt how x of.0 all.3)) rest)
 
   -- the session behind as many texts as were answered
   stays_there : (s : Session) (seen : List Served) (bs : Broken) → session_after (alone_from words t s seen) s [] bs ≡ s
-  unfolding session_after seats
+  unfolding session_after positions
   stays_there s [] bs = refl
   stays_there s (x ∷ seen) bs = refl
 
   -- a statement that meets no full stash
   behind_served : (s : Session) (stmt : Stmt) (how : How) (bs : Broken) (x : Served) (seen : List Served) (spelt : List Spelt) → head_of bs ≡ how → is_full_now s stmt ≡ false → x.skeleton ≡ skeleton stmt → x.seen ≡ seen_or_cut how s stmt
       → session_after (alone_from words t s (x ∷ seen)) s (Ok stmt ∷ spelt) bs ≡ session_after (alone_from words t (after how s stmt) seen) (after how s stmt) spelt (rest_of bs)
-  unfolding session_after seats
+  unfolding session_after positions
   behind_served s stmt how bs x seen spelt is room sk here =
-      ap (λ (b : Bool). if b then s else session_after (seats_then s x seen) (after (head_of bs) s stmt) spelt (rest_of bs)) room
-      ∙ (λ i. session_after (seats_then s (is_served s stmt how x sk here i) seen) (after (is i) s stmt) spelt (rest_of bs))
+      ap (λ (b : Bool). if b then s else session_after (positions_then s x seen) (after (head_of bs) s stmt) spelt (rest_of bs)) room
+      ∙ (λ i. session_after (positions_then s (is_served s stmt how x sk here i) seen) (after (is i) s stmt) spelt (rest_of bs))
 
   pub behind_alone : (ending : Ending) (s : Session) (spelt : List Spelt) (broken : Broken) (answers : List Answer) (seen : List Served) (part : List ℕ) → AreOf spelt seen → AnswersAlone ending s spelt broken answers seen part
       → session_after (alone_from words t s seen) s (take (length answers) spelt) (take (length answers) broken) ≡ after_all s (take (length answers) spelt) (take (length answers) broken)

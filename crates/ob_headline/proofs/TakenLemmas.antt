@@ -4,7 +4,7 @@ use Rattle.std.proofs.Math.Seq.{take-append_seam}
 use Rattle.std.specs.Io.KnownBytes.{Appends}
 use Rattle.ob_headline.specs.Words.{Took, printed}
 
--- behind the answers that it took whole it took these bytes, or a part of the next answer, for this cause
+-- after the answers that it took whole it took these bytes, or a part of the next answer, for this cause
 abbrev pub LosesSo : (written0 written1 : Option (List ℕ)) → (Lost : Type 0) → (kept lost : List Answer) → (bytes : List ℕ) → Type 0
 LosesSo w0 w1 Lost kept [] bytes = Outputs w0 w1 Lost (printed kept ++ bytes)
 LosesSo w0 w1 Lost kept (one ∷ lost) bytes = Lost × Outputs w0 w1 Lost (printed kept ++ one.bytes)
@@ -38,7 +38,7 @@ same_behind [] ys zs is = is
 same_behind (x ∷ xs) ys zs is = same_behind xs ys zs (cc is)
 
 module _ (w0 w1 : Option (List ℕ)) (Lost : Type 0) (all : List Answer) (bytes : List ℕ) (out : Outputs w0 w1 Lost (printed all ++ bytes)) where
-  -- it took the answers so far whole, and this behind them
+  -- it took the answers so far whole, and this after them
   record Goes (kept answers : List Answer) (g lost : List ℕ) : Type 0 where
     parts : all ≡ kept ++ answers
     grown : out.grown ≡ printed kept ++ g

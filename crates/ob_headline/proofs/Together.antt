@@ -1,5 +1,5 @@
 -- What is seen of INSERTs that are served together, by the laws of what runs ask, computed.
-use Rattle.ob_headline.proofs.Words.{End, Err, Joined, List, map, None, Ok, Option, Public, refl, Served, Some, Spelt, Static, Whole, ℕ, [], ◌∷◌, ◌≡◌}
+use Rattle.ob_headline.proofs.Words.{End, Err, Batched, List, map, None, Ok, Option, Public, refl, Served, Some, Spelt, Static, Whole, ℕ, [], ◌∷◌, ◌≡◌}
 use Rattle.ob_base.specs.Accesses.{makes}
 use Rattle.ob_headline.specs.Reruns.{shown_plainly, stated, stated_in}
 use Rattle.ob_sql.specs.declared.stmt.Stmt.TheVariants.{Insert}
@@ -16,7 +16,7 @@ texts =
     create_t ∷ insert t 1 10 ∷ insert t 2 20 ∷ insert t 3 30 ∷ insert t 4 40 ∷ Err 7 ∷ insert t 5 50
     ∷ Ok (Insert t None (int 6 ∷ [])) ∷ insert t 7 70 ∷ []
 
-together : ends_of (Some 3) texts ≡ Whole ∷ Whole ∷ Joined ∷ Joined ∷ Whole ∷ Whole ∷ Static ∷ Joined ∷ []
+together : ends_of (Some 3) texts ≡ Whole ∷ Whole ∷ Batched ∷ Batched ∷ Whole ∷ Whole ∷ Static ∷ Batched ∷ []
 unfolding makes shown_plainly stated
 together = refl
 

@@ -29,7 +29,7 @@ pub use Rattle.ob_base.specs.declared.schema.Shape.{Shape}
 pub use Rattle.ob_base.specs.declared.schema.Shape.TheVariants.{Flat, Indexed}
 pub use Rattle.ob_base.specs.declared.schema.Table.{Table}
 pub use Rattle.ob_base.specs.declared.seen.End.{End}
-pub use Rattle.ob_base.specs.declared.seen.End.TheVariants.{AfterCount, Cut, Joined, Static, Whole}
+pub use Rattle.ob_base.specs.declared.seen.End.TheVariants.{AfterCount, Cut, Batched, Static, Whole}
 pub use Rattle.ob_base.specs.declared.seen.Seen.{Seen}
 pub use Rattle.ob_base.specs.declared.skeleton.Skeleton.{Skeleton}
 pub use Rattle.ob_mean.proofs.ReplayLemmas.{after_room}
@@ -76,7 +76,7 @@ unfoldable pub use Rattle.ob_headline.specs.Disturbed.{meant_entries}
 pub use Rattle.ob_headline.specs.Endings.{status_of}
 pub use Rattle.ob_headline.specs.Failures.{outcome_failures}
 unfoldable pub use Rattle.ob_headline.specs.Failures.{failures}
-pub use Rattle.ob_headline.specs.Flights.{FliesNone, may_fly, most_of, seats_of, trace_of, words_of}
+pub use Rattle.ob_headline.specs.Flights.{FliesNone, may_fly, most_of, positions_of, trace_of, words_of}
 unfoldable pub use Rattle.ob_headline.specs.Flights.{AreEntries, whole_of}
 pub use Rattle.ob_headline.specs.Headline.{Headline}
 pub use Rattle.ob_headline.specs.Keeping.{BeginsFrom, closing_named}

@@ -31,7 +31,7 @@ use Rattle.ob_headline.specs.Words.{Answer, refused_as, refused_at}
 use Rattle.ob_headline.specs.Bases.{Base}
 use Rattle.ob_headline.specs.Batches.{Joins, is_failed}
 use Rattle.ob_headline.specs.Failures.{FailsBeside, RisesBy, cut_off, failures}
-use Rattle.ob_headline.specs.Flights.{EndedBy, Entered, OnBy, Seat, Stand, seats_of, trace_of}
+use Rattle.ob_headline.specs.Flights.{EndedBy, Entered, OnBy, Position, LeftAt, positions_of, trace_of}
 use Rattle.ob_headline.specs.FullStash.{ReadsFullStash}
 use Rattle.ob_headline.specs.Leaves.{ReadsDraws}
 use Rattle.ob_headline.specs.Statements.{statements}
@@ -54,7 +54,7 @@ abbrev pub Says : Option Refusal → Public → Stmt → Answer → Type 0
 Says None p stmt answer = HasForm p stmt answer
 Says (Some r) p stmt answer = answer ≡ refused_as r
 
--- just before the closing is made that lists the tables behind it, where they are saved
+-- just before the closing is made that lists the tables after it, where they are saved
 abbrev pub AtClosing : Public → Stmt → (rest : List Access) → Type 0
 AtClosing p stmt rest =
     (is_saved p (skeleton stmt) ≡ true) × IsTrue (starts_with_make rest)
@@ -97,66 +97,66 @@ StopsWithin ending Failed Full p stmt seen =
 
 -- ---- a flight that was left
 -- memory was wanting for it, in its turn, just before its result is made, if it isn't padded
-abbrev pub MakesAloft : Option Stand → Public → Stmt → Seen → Type 0
-MakesAloft None p stmt seen = ⊥
-MakesAloft (Some stand) p stmt seen =
+abbrev pub MakesInFlight : Option LeftAt → Public → Stmt → Seen → Type 0
+MakesInFlight None p stmt seen = ⊥
+MakesInFlight (Some stand) p stmt seen =
     IsTrue stand.turn
     × AtResult p stmt seen (drop stand.own (whole_script p (skeleton stmt) seen))
 
 -- for one of these
-unfoldable pub OneMakes : List Seat → List Stmt → List Served → Type 0
+unfoldable pub OneMakes : List Position → List Stmt → List Served → Type 0
 OneMakes [] stmts seen = ⊥
-OneMakes (v ∷ seats) [] seen = ⊥
-OneMakes (v ∷ seats) (stmt ∷ stmts) [] = ⊥
-OneMakes (v ∷ seats) (stmt ∷ stmts) (x ∷ seen) =
-    MakesAloft v.left v.public stmt x.seen ⊎ OneMakes seats stmts seen
+OneMakes (v ∷ positions) [] seen = ⊥
+OneMakes (v ∷ positions) (stmt ∷ stmts) [] = ⊥
+OneMakes (v ∷ positions) (stmt ∷ stmts) (x ∷ seen) =
+    MakesInFlight v.left v.public stmt x.seen ⊎ OneMakes positions stmts seen
 
 -- it has the turn: the last access of all is its own, or the next one would have been
-abbrev pub HasTurn : Stand → Type 0
+abbrev pub HasTurn : LeftAt → Type 0
 HasTurn stand = (stand.before + 1 ≡ stand.own) ⊎ IsTrue stand.turn
 
 -- memory was wanting for it, in its turn, where its rows are emitted, or in its end, which would have come next
-abbrev pub WantsAloft : Option Stand → Seat → Stmt → Seen → Type 0
-WantsAloft None v stmt seen = ⊥
-WantsAloft (Some stand) v stmt seen =
+abbrev pub WantsInFlight : Option LeftAt → Position → Stmt → Seen → Type 0
+WantsInFlight None v stmt seen = ⊥
+WantsInFlight (Some stand) v stmt seen =
     (HasTurn stand × AtEmission v.public stmt seen
     (drop stand.own (whole_script v.public (skeleton stmt) seen)))
     ⊎ ((v.until ≡ v.asked + stand.all)
     × (drop stand.own (script v.public (skeleton stmt) seen) ≡ []))
 
 -- for the first of these that hadn't ended
-unfoldable pub FirstWants : List Seat → List Stmt → List Served → Type 0
+unfoldable pub FirstWants : List Position → List Stmt → List Served → Type 0
 FirstWants [] stmts seen = ⊥
-FirstWants (v ∷ seats) [] seen = ⊥
-FirstWants (v ∷ seats) (stmt ∷ stmts) [] = ⊥
-FirstWants (v ∷ seats) (stmt ∷ stmts) (x ∷ seen) =
-    (OnBy v.left v × WantsAloft v.left v stmt x.seen)
-    ⊎ (EndedBy v.left v × FirstWants seats stmts seen)
+FirstWants (v ∷ positions) [] seen = ⊥
+FirstWants (v ∷ positions) (stmt ∷ stmts) [] = ⊥
+FirstWants (v ∷ positions) (stmt ∷ stmts) (x ∷ seen) =
+    (OnBy v.left v × WantsInFlight v.left v stmt x.seen)
+    ⊎ (EndedBy v.left v × FirstWants positions stmts seen)
 
 -- a run doesn't end within one statement of a flight; memory is wanting before its first access, where a region is made, or,
 -- of those that weren't answered, for one before its result, or for the first that hadn't ended
-abbrev pub LeavesFlight : Option Stand → Ending → (asked : List Access) → (Wants : Type 0) → Type 0
+abbrev pub LeavesFlight : Option LeftAt → Ending → (asked : List Access) → (Wants : Type 0) → Type 0
 LeavesFlight None ending asked Wants = ⊤
 LeavesFlight (Some stand) ending asked Wants =
     (ends_within ending ≡ false) × (ending ≡ Ran (Err NoMemory)
     → (stand.all ≡ 0) ⊎ (IsTrue (ends_with_make asked) ⊎ Wants))
 
 -- so the flight was left, if there was one, in which these were begun
-abbrev pub LeavesAloft : Ending → (asked : List Access) → List Seat → List Stmt → List Served
+abbrev pub LeavesInFlight : Ending → (asked : List Access) → List Position → List Stmt → List Served
     → Type 0
-LeavesAloft ending asked [] stmts seen = ⊤
-LeavesAloft ending asked (v ∷ seats) stmts seen =
+LeavesInFlight ending asked [] stmts seen = ⊤
+LeavesInFlight ending asked (v ∷ positions) stmts seen =
     LeavesFlight v.left ending asked
-    (OneMakes (v ∷ seats) stmts seen ⊎ FirstWants (v ∷ seats) stmts seen)
+    (OneMakes (v ∷ positions) stmts seen ⊎ FirstWants (v ∷ positions) stmts seen)
 
 -- of those begun so many were cut off where they flew; how one alone was left is seen so, too
-abbrev pub cut_aloft : List Seat → List Served → ℕ
-cut_aloft [] last = 0
-cut_aloft (v ∷ seats) last = if is_some v.left then cut_off last else 0
+abbrev pub cut_in_flight : List Position → List Served → ℕ
+cut_in_flight [] last = 0
+cut_in_flight (v ∷ positions) last = if is_some v.left then cut_off last else 0
 
 -- ---- all statements
 -- one that was begun was left by its flight, in which it had ended, or hadn't, or alone
-abbrev pub IsLeft : (Leaves : Public → Stmt → Seen → Type 0) → Option Stand → Seat
+abbrev pub IsLeft : (Leaves : Public → Stmt → Seen → Type 0) → Option LeftAt → Position
     → Option Gathering → Stmt → Seen → Type 0
 IsLeft Leaves None v g stmt seen =
     Lawful v.public v.asked stmt seen
@@ -169,23 +169,23 @@ IsLeft Leaves (Some stand) v g stmt seen =
 -- were asked, and says that it was served with an INSERT before it exactly where it joins the batch that is gathered; its
 -- answer is its early refusal, if there is one, says that the store failed exactly where it was cut off, or the batch was
 -- that it joined, and has the plan that is seen. One that was begun has no answer, and was left so.
-unfoldable pub AreSeen : (Leaves : Public → Stmt → Seen → Type 0) → List Seat
+unfoldable pub AreSeen : (Leaves : Public → Stmt → Seen → Type 0) → List Position
     → Option Gathering → List Spelt → List Answer → List Served → Type 0
-AreSeen Leaves seats g [] answers seen = seen ≡ []
-AreSeen Leaves seats g (Err at ∷ spelt) [] seen = AreSeen Leaves seats None spelt [] seen
-AreSeen Leaves seats g (Err at ∷ spelt) (one ∷ answers) seen =
-    (one ≡ refused_at at) × AreSeen Leaves seats None spelt answers seen
-AreSeen Leaves seats g (Ok stmt ∷ spelt) answers [] = ⊥
+AreSeen Leaves positions g [] answers seen = seen ≡ []
+AreSeen Leaves positions g (Err at ∷ spelt) [] seen = AreSeen Leaves positions None spelt [] seen
+AreSeen Leaves positions g (Err at ∷ spelt) (one ∷ answers) seen =
+    (one ≡ refused_at at) × AreSeen Leaves positions None spelt answers seen
+AreSeen Leaves positions g (Ok stmt ∷ spelt) answers [] = ⊥
 AreSeen Leaves [] g (Ok stmt ∷ spelt) answers (x ∷ seen) = ⊥
-AreSeen Leaves (v ∷ seats) g (Ok stmt ∷ spelt) [] (x ∷ seen) =
+AreSeen Leaves (v ∷ positions) g (Ok stmt ∷ spelt) [] (x ∷ seen) =
     (x.skeleton ≡ skeleton stmt) × IsLeft Leaves v.left v g stmt x.seen
-    × AreSeen Leaves seats (gathering_after v.public v.asked g stmt x.seen.end) spelt [] seen
-AreSeen Leaves (v ∷ seats) g (Ok stmt ∷ spelt) (one ∷ answers) (x ∷ seen) =
+    × AreSeen Leaves positions (gathering_after v.public v.asked g stmt x.seen.end) spelt [] seen
+AreSeen Leaves (v ∷ positions) g (Ok stmt ∷ spelt) (one ∷ answers) (x ∷ seen) =
     (x.skeleton ≡ skeleton stmt) × Lawful v.public v.asked stmt x.seen
     × (Says (refusal_now v.public v.asked stmt) v.public stmt one
     × (IsTrue (is_failed g x.seen.end) ↔ (one.outcome ≡ Refused StoreFault))
     × (one.plan ≡ x.seen.plan) × Joins v.public v.asked g stmt x.seen)
-    × AreSeen Leaves seats (gathering_after v.public v.asked g stmt x.seen.end) spelt answers seen
+    × AreSeen Leaves positions (gathering_after v.public v.asked g stmt x.seen.end) spelt answers seen
 
 -- They are those that the statements go on from, if there are any, and the trace of the skeletons and of what is seen of
 -- each: of those that were answered, and of the one begun, if it is a statement, as one is where a run ends in an access of
@@ -202,14 +202,14 @@ pub record Accesses (base : Base) (keys : KeySet) (ending : Ending) (story : Sto
       ≡ length (statements (take (length story.served) story.spelt))
   pub lawful : AreSeen (StopsWithin ending (FailsBeside story.seen old.faults new.faults)
       (ReadsFullStash keys base.start new))
-      (seats_of base story.entries) None story.spelt story.answers (story.seen ++ story.last)
-  pub aloft : LeavesAloft ending new.asked
-      (drop (length story.seen) (seats_of base story.entries))
+      (positions_of base story.entries) None story.spelt story.answers (story.seen ++ story.last)
+  pub aloft : LeavesInFlight ending new.asked
+      (drop (length story.seen) (positions_of base story.entries))
       (statements (drop (length story.served) story.spelt)) story.last
-  pub drawn : ReadsDraws (draw_of keys) (seats_of base story.entries) (story.seen ++ story.last)
+  pub drawn : ReadsDraws (draw_of keys) (positions_of base story.entries) (story.seen ++ story.last)
   pub asked : new.asked ≡ base.before ++ trace_of base story.entries
   pub failed : base.public.batch ≡ None → RisesBy (failures story.answers) old.faults new.faults
   pub cut : RisesBy (cut_off story.seen
-      + cut_aloft (drop (length story.seen) (seats_of base story.entries)) story.last)
+      + cut_in_flight (drop (length story.seen) (positions_of base story.entries)) story.last)
       old.faults new.faults
   pub unfailed : any_cut (story.seen ++ story.last) ≡ false → new.faults ≡ old.faults

@@ -7,7 +7,7 @@ use Rattle.ob_base.specs.declared.config.Planner.TheVariants.{Auto}
 use Rattle.ob_base.specs.declared.config.Public.{Public}
 use Rattle.ob_headline.specs.declared.flight.FlightSettings.{FlightSettings}
 use Rattle.ob_reopen.specs.Reopened.{opened_public, opened_start, opening_script}
-use Rattle.ob_reopen.specs.Resting.{Rests}
+use Rattle.ob_reopen.specs.Resting.{IsAtRest}
 use Rattle.ob_mean.specs.Replay.{Session, first_session}
 use Rattle.ob_mean.specs.Verdict.{Draws, Tables}
 use Rattle.ob_reopen.specs.declared.closing.Closing.{Closing}
@@ -81,7 +81,7 @@ flying flight base = record base { flight = flight }
 pub record Rested (o : Opened) (tables : Tables) : Type 0 where
   pub tells : IsTrue o.old.tells
   pub honest : o.new.lie ≡ None
-  pub rests : Rests o.keys o.closing o.old.kept tables
+  pub rests : IsAtRest o.keys o.closing o.old.kept tables
 
 -- nothing was drawn yet, nor are the numbers known
 abbrev pub undrawn : Draws

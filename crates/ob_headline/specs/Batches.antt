@@ -3,7 +3,7 @@ use Rattle.std.specs.Prelude.{ℕ, ⊤, ◌≡◌, ◌<◌, ◌⊎◌, ◌++◌,
 use Rattle.std.specs.Option.{option_map_or}
 use Rattle.ob_base.specs.declared.config.Public.{Public}
 use Rattle.ob_base.specs.declared.seen.End.{End}
-use Rattle.ob_base.specs.declared.seen.End.TheVariants.{Joined, Cut}
+use Rattle.ob_base.specs.declared.seen.End.TheVariants.{Batched, Cut}
 use Rattle.ob_base.specs.declared.seen.Seen.{Seen}
 use Rattle.ob_headline.specs.Flights.{WaitToFly}
 use Rattle.ob_headline.specs.Statements.{SpellFirst}
@@ -25,12 +25,12 @@ Joins p m g stmt seen = is_joined seen.end ≡ joins_now p m g stmt
 
 -- the store cut it off, or the INSERT with which it was served
 abbrev pub is_failed : Option Gathering → End → Bool
-is_failed g Joined = option_map_or (λ (h : Gathering). h.failed) g false
+is_failed g Batched = option_map_or (λ (h : Gathering). h.failed) g false
 is_failed g (Cut n) = true
 is_failed g _ = false
 
 -- ---- where no call fails
--- what is gathered behind a statement, and the session behind it
+-- what is gathered after a statement, and the session after it
 abbrev pub gathered_now : Option Gathering → Session → Stmt → Option Gathering
 gathered_now g s stmt =
     gathering_after s.public s.asked g stmt (seen_or_cut (how_now g s stmt) s stmt).end
@@ -57,8 +57,8 @@ pub record Wait (most : ℕ) (texts : List (List ℕ)) : Type 0 where
   pub table : List ℕ
   pub insert : AllInsert table stmts
 
--- all of the texts were answered, but for some behind the last one that was, which wait, by what is public then
-pub record AnsweredBut (p : Public) (most flown : ℕ) (texts served : List (List ℕ)) : Type 0 where
+-- all of the texts were answered, except for some after the last one that was, which wait, by what is public then
+pub record AnsweredExcept (p : Public) (most flown : ℕ) (texts served : List (List ℕ)) : Type 0 where
   pub waiting : List (List ℕ)
   pub wait : Wait most waiting ⊎ WaitToFly p flown waiting
   pub answered : Begins texts (served ++ waiting)

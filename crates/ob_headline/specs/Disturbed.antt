@@ -3,7 +3,7 @@ use Rattle.std.specs.Prelude.{⊤, false, ◌≡◌, ◌≤◌, ◌+◌, ℕ, na
 use Rattle.ob_base.specs.declared.access.Access.{Access}
 use Rattle.ob_headline.specs.Bases.{Base, drawing, public_with, start}
 use Rattle.ob_headline.specs.Batches.{after_now, gathered_now}
-use Rattle.ob_headline.specs.Flights.{Seat, at_seat, may_fly, most_of, seats_of, words_of}
+use Rattle.ob_headline.specs.Flights.{Position, at_position, may_fly, most_of, positions_of, words_of}
 use Rattle.ob_headline.specs.Story.{Story}
 use Rattle.ob_headline.specs.Words.{Answer, Begins, refused_at}
 use Rattle.ob_headline.specs.Meaning.{AnswersMeant}
@@ -32,7 +32,7 @@ meant_together s (stmt ∷ []) = Alone (served Hows.Alone s stmt) ∷ []
 meant_together s (stmt ∷ next ∷ more) =
     Together (flown_meant s (stmt ∷ next ∷ more)) None ∷ []
 
--- the session behind them, and the words drawn by then
+-- the session after them, and the words drawn by then
 abbrev pub behind_flown : (words : ℕ → ℕ) → Session → List Served → Session
 behind_flown words s flown = record s {
   public = next_flight s.public flown words;
@@ -85,7 +85,7 @@ course_with most words c stmt =
     if nat_lt (length c.waiting + 1) most then gathering stmt c
     else landed words (gathering stmt c)
 
--- any other, behind those that were gathered
+-- any other, after those that were gathered
 abbrev pub now_alone : Course → Stmt → Served
 now_alone c stmt = served (how_now c.batch c.session stmt) c.session stmt
 
@@ -127,26 +127,26 @@ meant_trace base keys spelt = trace_in (words_of base) 0 (public_with base.setti
 
 -- from a session of the model on: each of these statements that was answered within n accesses is answered as it is
 -- meant, and seen so, and the store failed none
-unfoldable pub MeantUntil : (n : ℕ) → Option Gathering → List Seat → Session → List Spelt
+unfoldable pub MeantUntil : (n : ℕ) → Option Gathering → List Position → Session → List Spelt
     → List Answer → List Served → Type 0
-MeantUntil n g seats s [] answers seen = ⊤
-MeantUntil n g seats s (x ∷ spelt) [] seen = ⊤
-MeantUntil n g seats s (Err at ∷ spelt) (one ∷ answers) seen =
-    (one ≡ refused_at at) × MeantUntil n None seats s spelt answers seen
-MeantUntil n g seats s (Ok stmt ∷ spelt) (one ∷ answers) [] = ⊥
+MeantUntil n g positions s [] answers seen = ⊤
+MeantUntil n g positions s (x ∷ spelt) [] seen = ⊤
+MeantUntil n g positions s (Err at ∷ spelt) (one ∷ answers) seen =
+    (one ≡ refused_at at) × MeantUntil n None positions s spelt answers seen
+MeantUntil n g positions s (Ok stmt ∷ spelt) (one ∷ answers) [] = ⊥
 MeantUntil n g [] s (Ok stmt ∷ spelt) (one ∷ answers) (x ∷ seen) = ⊥
-MeantUntil n g (v ∷ seats) s (Ok stmt ∷ spelt) (one ∷ answers) (x ∷ seen) =
-    v.until ≤ n → (is_full_now (at_seat v s) stmt ≡ false) × AnswersMeant (at_seat v s) stmt one
-    × (x.seen ≡ seen_or_cut (how_now g (at_seat v s) stmt) (at_seat v s) stmt)
-    × MeantUntil n (gathered_now g (at_seat v s) stmt) seats (after_now g (at_seat v s) stmt)
+MeantUntil n g (v ∷ positions) s (Ok stmt ∷ spelt) (one ∷ answers) (x ∷ seen) =
+    v.until ≤ n → (is_full_now (at_position v s) stmt ≡ false) × AnswersMeant (at_position v s) stmt one
+    × (x.seen ≡ seen_or_cut (how_now g (at_position v s) stmt) (at_position v s) stmt)
+    × MeantUntil n (gathered_now g (at_position v s) stmt) positions (after_now g (at_position v s) stmt)
     spelt answers seen
 
--- over a store that others change only behind n accesses: the first n accesses are a first part of those that these
+-- over a store that others change only after n accesses: the first n accesses are a first part of those that these
 -- statements ask by their meaning, each answer that came within them is as it is meant, and where the meaning asks no
 -- more, no more is asked
 pub record Until (base : Base) (keys : KeySet) (n : ℕ) (story : Story) (asked : List Access)
     : Type 0 where
   pub begins : Begins (take n asked) (meant_trace base keys story.spelt)
-  pub meant : MeantUntil n None (seats_of base story.entries) (drawing keys (start base.settings))
+  pub meant : MeantUntil n None (positions_of base story.entries) (drawing keys (start base.settings))
       story.spelt story.answers (story.seen ++ story.last)
   pub quiet : length (meant_trace base keys story.spelt) ≤ n → length asked ≤ n

@@ -46,7 +46,7 @@ may_fly p (Rows (OneTable table) columns) = not (has_index p table)
 may_fly p (Groups table columns key) = not (has_index p table)
 may_fly p _ = false
 
--- how many are gathered before it, and behind it
+-- how many are gathered before it, and after it
 abbrev pub place_now : (most : ℕ) → Public → (gathered : ℕ) → Skeleton → ℕ
 place_now most p gathered s = if may_fly p s && nat_lt gathered most then gathered else 0
 
@@ -66,7 +66,7 @@ unfoldable pub served_by : List Entry → List Served
 served_by [] = []
 served_by (e ∷ entries) = served_in e ++ served_by entries
 
--- the entries that have none but the first n statements
+-- the entries that have none except the first n statements
 unfoldable pub whole_of : (n : ℕ) → List Entry → List Entry
 whole_of n [] = []
 whole_of n (e ∷ entries) =
@@ -96,7 +96,7 @@ AreEntries most answered (e ∷ entries) =
 abbrev pub trace_of : Base → List Entry → List Access
 trace_of base entries = trace_in (words_of base) 0 base.public entries
 
--- what is public behind them
+-- what is public after them
 unfoldable pub after_entries : (words : ℕ → ℕ) → (t : ℕ) → Public → List Entry → Public
 after_entries words t p [] = p
 after_entries words t p (Alone x ∷ entries) =
@@ -107,7 +107,7 @@ after_entries words t p (Together flown left ∷ entries) =
 abbrev pub public_after : Base → List Entry → Public
 public_after base entries = after_entries (words_of base) 0 base.public entries
 
--- and behind those of which all were answered
+-- and after those of which all were answered
 abbrev pub public_whole : Base → Story → Public
 public_whole base story = public_after base (whole_of (length story.seen) story.entries)
 
@@ -115,7 +115,7 @@ public_whole base story = public_after base (whole_of (length story.seen) story.
 -- where a flight was left: how many accesses it had asked by then, how many of these were the statement's own, and how many of
 -- its own came before the last access of the flight; and whether it was its turn, as it is where the next access would have
 -- been its own
-pub record Stand : Type 0 where
+pub record LeftAt : Type 0 where
   pub all : ℕ
   pub own : ℕ
   pub before : ℕ
@@ -123,15 +123,15 @@ pub record Stand : Type 0 where
 
 -- what is public, and how many accesses were asked before it; how many were asked when it had ended; how many fly before it
 -- in its flight; and where that was left, if it was
-pub record Seat : Type 0 where
+pub record Position : Type 0 where
   pub public : Public
   pub asked : ℕ
   pub until : ℕ
   pub place : ℕ
-  pub left : Option Stand
+  pub left : Option LeftAt
 
-abbrev pub seat_alone : Public → (m : ℕ) → Served → Seat
-seat_alone p m x = record {
+abbrev pub position_alone : Public → (m : ℕ) → Served → Position
+position_alone p m x = record {
   public = p;
   asked = m;
   until = m + length (script p x.skeleton x.seen);
@@ -139,7 +139,7 @@ seat_alone p m x = record {
   left = None;
 }
 
-abbrev pub stand_at : Public → List Served → (words : ℕ → ℕ) → (i k : ℕ) → Stand
+abbrev pub stand_at : Public → List Served → (words : ℕ → ℕ) → (i k : ℕ) → LeftAt
 stand_at p flown words i k = record {
   all = k;
   own = own_asked p flown words k i;
@@ -158,9 +158,9 @@ asked_until words i (suc n) s =
     if has_ended i (turns words n s) then asked_until words i n s
     else length (turns words (suc n) s).log
 
-abbrev pub seat_aloft : Public → (m : ℕ) → List Served → (words : ℕ → ℕ) → (left : Option ℕ)
-    → (i : ℕ) → Seat
-seat_aloft p m flown words left i = record {
+abbrev pub position_in_flight : Public → (m : ℕ) → List Served → (words : ℕ → ℕ) → (left : Option ℕ)
+    → (i : ℕ) → Position
+position_in_flight p m flown words left i = record {
   public = flight_public (length flown) p;
   asked = m;
   until = m + asked_until words i (turns_of p flown) (boarding p flown);
@@ -169,66 +169,66 @@ seat_aloft p m flown words left i = record {
 }
 
 -- of as many statements of a flight, from this one on
-unfoldable pub seats_aloft : Public → (m : ℕ) → List Served → (words : ℕ → ℕ) → (left : Option ℕ)
-    → (i n : ℕ) → List Seat
-seats_aloft p m flown words left i zero = []
-seats_aloft p m flown words left i (suc n) =
-    seat_aloft p m flown words left i ∷ seats_aloft p m flown words left (i + 1) n
+unfoldable pub positions_in_flight : Public → (m : ℕ) → List Served → (words : ℕ → ℕ) → (left : Option ℕ)
+    → (i n : ℕ) → List Position
+positions_in_flight p m flown words left i zero = []
+positions_in_flight p m flown words left i (suc n) =
+    position_in_flight p m flown words left i ∷ positions_in_flight p m flown words left (i + 1) n
 
-unfoldable pub seats : (words : ℕ → ℕ) → (t : ℕ) → Public → (m : ℕ) → List Entry → List Seat
-seats words t p m [] = []
-seats words t p m (Alone x ∷ entries) =
-    seat_alone p m x
-    ∷ seats words t (next p x.skeleton x.seen) (m + length (script p x.skeleton x.seen)) entries
-seats words t p m (Together flown left ∷ entries) =
-    seats_aloft p m flown (words_from words t) left 0 (length flown)
-    ++ seats words (t + turns_of p flown) (next_flight p flown (words_from words t))
+unfoldable pub positions : (words : ℕ → ℕ) → (t : ℕ) → Public → (m : ℕ) → List Entry → List Position
+positions words t p m [] = []
+positions words t p m (Alone x ∷ entries) =
+    position_alone p m x
+    ∷ positions words t (next p x.skeleton x.seen) (m + length (script p x.skeleton x.seen)) entries
+positions words t p m (Together flown left ∷ entries) =
+    positions_in_flight p m flown (words_from words t) left 0 (length flown)
+    ++ positions words (t + turns_of p flown) (next_flight p flown (words_from words t))
     (m + length (flight_accesses p flown left (words_from words t))) entries
 
-abbrev pub seats_of : Base → List Entry → List Seat
-seats_of base entries = seats (words_of base) 0 base.public base.count entries
+abbrev pub positions_of : Base → List Entry → List Position
+positions_of base entries = positions (words_of base) 0 base.public base.count entries
 
 -- each statement is served together with those right before it that may fly, as many as may, if it may itself
-unfoldable pub AreGathered : (most gathered : ℕ) → List Seat → List Spelt → Type 0
-AreGathered most gathered seats [] = ⊤
-AreGathered most gathered seats (Err at ∷ spelt) = AreGathered most 0 seats spelt
+unfoldable pub AreGathered : (most gathered : ℕ) → List Position → List Spelt → Type 0
+AreGathered most gathered positions [] = ⊤
+AreGathered most gathered positions (Err at ∷ spelt) = AreGathered most 0 positions spelt
 AreGathered most gathered [] (Ok stmt ∷ spelt) = ⊥
-AreGathered most gathered (v ∷ seats) (Ok stmt ∷ spelt) =
+AreGathered most gathered (v ∷ positions) (Ok stmt ∷ spelt) =
     (v.place ≡ place_now most v.public gathered (skeleton stmt))
-    × AreGathered most (gathered_then v.public v.place (skeleton stmt)) seats spelt
+    × AreGathered most (gathered_then v.public v.place (skeleton stmt)) positions spelt
 
 -- it had ended when its flight was left, if that was
-abbrev pub EndedBy : Option Stand → Seat → Type 0
+abbrev pub EndedBy : Option LeftAt → Position → Type 0
 EndedBy None v = ⊤
 EndedBy (Some stand) v = v.until ≤ v.asked + stand.all
 
 -- it hadn't ended before its flight was left, if that was
-abbrev pub OnBy : Option Stand → Seat → Type 0
+abbrev pub OnBy : Option LeftAt → Position → Type 0
 OnBy None v = ⊤
 OnBy (Some stand) v = v.asked + stand.all ≤ v.until
 
 -- nor had the first of these
-abbrev pub GoesOn : List Seat → Type 0
+abbrev pub GoesOn : List Position → Type 0
 GoesOn [] = ⊤
-GoesOn (v ∷ seats) = OnBy v.left v
+GoesOn (v ∷ positions) = OnBy v.left v
 
 -- the entries of a story are these statements, and are served so; those that were answered had ended
 pub record Entered (base : Base) (story : Story) : Type 0 where
   pub served : served_by story.entries ≡ story.seen ++ story.last
   pub entries : AreEntries (most_of base) (length story.seen) story.entries
-  pub gathered : AreGathered (most_of base) 0 (seats_of base story.entries) story.spelt
+  pub gathered : AreGathered (most_of base) 0 (positions_of base story.entries) story.spelt
   pub ended : All (λ v. EndedBy v.left v)
-      (take (length story.seen) (seats_of base story.entries))
+      (take (length story.seen) (positions_of base story.entries))
 
--- the session of the model from which a statement is answered: these tables and these draws, by what its seat says
-abbrev pub at_seat : Seat → Session → Session
-at_seat v s = record s { public = v.public; asked = v.asked }
+-- the session of the model from which a statement is answered: these tables and these draws, by what its position says
+abbrev pub at_position : Position → Session → Session
+at_position v s = record s { public = v.public; asked = v.asked }
 
 -- by what statements go that are served from there, each alone
-abbrev pub seats_alone : Session → List Served → List Seat
-seats_alone s seen = seats (drawn 0) 0 s.public s.asked (all_alone seen)
+abbrev pub positions_alone : Session → List Served → List Position
+positions_alone s seen = positions (drawn 0) 0 s.public s.asked (all_alone seen)
 
 -- so before the next statement, if there is one
-abbrev pub at_next : List Seat → Session → Session
+abbrev pub at_next : List Position → Session → Session
 at_next [] s = s
-at_next (v ∷ seats) s = at_seat v s
+at_next (v ∷ positions) s = at_position v s

@@ -28,7 +28,7 @@ pub record IsWorld (keys : KeySet) (start : Start) (store : StoreState) (w : Wor
   pub store_is : w.store ≡ store
 
 -- the blocks that the access of a statement read last opened as more rows of its table than fit on the path of the leaf
--- that is seen and in the stash, behind what the statement asks: each row where the leaf of its key may lie
+-- that is seen and in the stash, after what the statement asks: each row where the leaf of its key may lie
 pub record ReadsFullStash (keys : KeySet) (start : Start) (store : StoreState) (p : Public)
     (stmt : Stmt) (seen : Seen) : Type 0 where
   -- the index of its table, before which so many accesses were asked
@@ -40,7 +40,7 @@ pub record ReadsFullStash (keys : KeySet) (start : Start) (store : StoreState) (
   pub shown : seen.leaf ≡ Some leaf
   -- the number of its draw
   pub next : ℕ
-  -- before its reads and behind them
+  -- before its reads and after them
   pub old : World
   pub new : World
   pub ends : IsWorld keys start store new

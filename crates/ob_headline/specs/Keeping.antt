@@ -14,7 +14,7 @@ use Rattle.ob_reopen.specs.declared.mark.Mark.TheVariants.{Fresh, InUse, Closed}
 use Rattle.ob_base.specs.declared.refusal.Stop.TheVariants.{NoMemory, SinkFault, Tampered}
 use Rattle.ob_reopen.specs.Closed.{IsClosedAs, NotClosed, StaysInUse, is_used_up}
 use Rattle.ob_reopen.specs.Reopened.{NotOpened, opened_start, opening_script}
-use Rattle.ob_reopen.specs.Resting.{Rests}
+use Rattle.ob_reopen.specs.Resting.{IsAtRest}
 use Rattle.ob_headline.specs.Bases.{Base, Opened, fresh, reopened}
 use Rattle.ob_headline.specs.Endings.{last_line, status_of}
 use Rattle.ob_headline.specs.Tracing.{traced}
@@ -34,7 +34,7 @@ use Rattle.ob_reopen.specs.declared.fault.OpenErr.TheVariants as OpenErrs
 use Rattle.ob_reopen.specs.declared.listed.Listed.{Listed}
 use Rattle.ob_seal.specs.KeySet.{KeySet}
 use Rattle.ob_store.specs.Runs.{Did}
-use Rattle.ob_store.specs.State.{Lie, StoreState}
+use Rattle.ob_store.specs.State.{FalseRead, StoreState}
 use Rattle.ob_vault.specs.State.{Start}
 use Rattle.ob_vault.specs.Tied.{TagFits}
 
@@ -97,10 +97,10 @@ pub record OpensClosing (closing : Closing) (config : Config) (keys : KeySet) (b
   })
   pub did : Did (opening_script closing listed) old new
   pub tells : new.tells ≡ old.tells
-  pub fits : (lie : Lie) → new.lie ≡ Some lie → TagFits keys (opened_start closing listed) lie
+  pub fits : (lie : FalseRead) → new.lie ≡ Some lie → TagFits keys (opened_start closing listed) lie
   -- those that rested there are listed
   pub told : IsTrue old.tells → new.lie ≡ None → (tables : Tables)
-      → Rests keys closing old.kept tables → headings tables ≡ headings_of base.public.tables
+      → IsAtRest keys closing old.kept tables → headings tables ≡ headings_of base.public.tables
 
 -- they weren't; a store that told the truth, and in which tables rested as the mark says, is not taken for a changed one
 pub record NotReopened (closing : Closing) (keys : KeySet) (ending : KeptEnding)
@@ -109,7 +109,7 @@ pub record NotReopened (closing : Closing) (keys : KeySet) (ending : KeptEnding)
   pub ends : ending ≡ opening_end error
   pub opened : NotOpened closing keys error old new
   pub honest : IsTrue old.tells → new.lie ≡ None → (tables : Tables)
-      → Rests keys closing old.kept tables
+      → IsAtRest keys closing old.kept tables
       → (error ≡ OpenErrs.Failed) ⊎ (error ≡ OpenErrs.NoMemory)
 
 -- the closing that a mark names
@@ -177,7 +177,7 @@ pub record NotBegun (config : Config) (keys : KeySet) (ending : KeptEnding)
       × BegunInVain held config keys ending old new fault0 fault1 read keeper1)
 
 -- ---- the end
--- the closing that is made behind these: the next region, the next write number, a block for each table beside its head
+-- the closing that is made after these: the next region, the next write number, a block for each table beside its head
 abbrev pub closing_behind : Public → Start → List Access → Closing
 closing_behind p start asked = record {
   region = p.next_region;

@@ -6,14 +6,14 @@ use Rattle.ob_base.specs.declared.config.Config.{Config}
 use Rattle.ob_reopen.specs.declared.mark.Mark.{Mark}
 use Rattle.ob_base.specs.declared.refusal.Stop.TheVariants.{Tampered, SourceFault, SinkFault, NoMemory, InputLimit, StoreFault, StashFull, KeeperFault}
 use Rattle.ob_reopen.specs.Closed.{is_used_up}
-use Rattle.ob_reopen.specs.Resting.{AcceptsClosings, Rests, by_name}
+use Rattle.ob_reopen.specs.Resting.{AcceptsClosings, IsAtRest, by_name}
 use Rattle.ob_headline.specs.Bases.{Base, FromEach, drawing, flying, fresh}
 use Rattle.ob_headline.specs.Headline.{Headline}
 use Rattle.ob_headline.specs.Keeping.{BeganKept, Closes, NotBegun, closing_behind, kept_line, kept_status, region_opened}
 use Rattle.ob_headline.specs.KeyLine.{first_line, has_lf, secret_of}
 use Rattle.ob_headline.specs.Tracing.{traced}
 use Rattle.ob_headline.specs.Words.{Answer, IsHonest, Outside, SinksRose, keys_in, outside_of}
-use Rattle.ob_headline.specs.Flights.{public_after, seats_of}
+use Rattle.ob_headline.specs.Flights.{public_after, positions_of}
 use Rattle.ob_headline.specs.Meaning.{AnswersFrom, session_after}
 use Rattle.ob_headline.specs.Sealing.{PassesRows, SealsEach, SealsOwn}
 use Rattle.ob_headline.specs.declared.ending.Ending.{Ending}
@@ -29,7 +29,7 @@ use Rattle.ob_reopen.specs.declared.closing.Closing.{Closing}
 use Rattle.ob_seal.specs.KeySet.{KeySet}
 use Rattle.ob_seal.specs.Sealed.{keys_of}
 use Rattle.ob_store.specs.Runs.{Later}
-use Rattle.ob_store.specs.State.{Lie, StoreState}
+use Rattle.ob_store.specs.State.{FalseRead, StoreState}
 use Rattle.ob_vault.specs.Tied.{TagFits}
 use Rattle.ob_headline.specs.Story.{Story}
 use Rattle.ob_headline.specs.Prompt.{Prompt}
@@ -84,7 +84,7 @@ pub record Unserved (Why : Config → (secret : List ℕ) → Type 0) (settings 
   pub source : new.faults.source ≡ old.faults.source
   pub most_open : report.high ≤ 1
 
--- it ended at what the keeper held, while tables were opened, or right behind that
+-- it ended at what the keeper held, while tables were opened, or right after that
 abbrev pub Unbegun : (settings : Option Config) → (Takes : Type 0) → (tracing : Bool)
     → (old new : Outside) → (keeper0 keeper1 : KeeperState) → (ending : KeptEnding)
     → (answers : List Answer) → (report : Report) → Type 0
@@ -107,13 +107,13 @@ pub record ClosesTables (base : Base) (keys : KeySet) (tracing refused : Bool) (
   pub closes : Closes closing (region_opened base.opened) tracing (Plain (Ran (Ok refused))) ending
       served new traced0 traced1 fault0 fault1 keeper0 keeper1
   pub later : Later served new
-  pub fits : (lie : Lie) → new.lie ≡ Some lie → TagFits keys base.start lie
+  pub fits : (lie : FalseRead) → new.lie ≡ Some lie → TagFits keys base.start lie
   -- where the store tells what it holds and gave what was written, the tables rest in it: those that the statements leave
   pub rests : IsHonest begun new → is_used_up closing ≡ false → (mark : Mark)
       → closes.result ≡ Ok mark → FromEach base (λ s. (broken : Broken)
-      × AnswersFrom (Ran (Ok refused)) (seats_of base story.entries) (drawing keys s) story.spelt
+      × AnswersFrom (Ran (Ok refused)) (positions_of base story.entries) (drawing keys s) story.spelt
       broken story.answers (story.seen ++ story.last) story.part
-      × Rests keys closing new.kept (by_name (session_after (seats_of base story.entries)
+      × IsAtRest keys closing new.kept (by_name (session_after (positions_of base story.entries)
       (drawing keys s) story.spelt broken).tables))
   -- and no block of a live region lies in clear, of the closing neither
   pub sealed : SealsOwn (PassesBoth base.public.pack) base keys begun new
@@ -131,7 +131,7 @@ pub record IsClosed (base : Base) (keys : KeySet) (tracing refused : Bool) (stor
   pub grew : Outputs served.written new.written (SinksRose served.faults new.faults) (kept_line ending)
   pub silent : new.faults.trace ≢ served.faults.trace → new.written ≡ served.written
 
--- nothing is closed behind a stop
+-- nothing is closed after a stop
 pub record IsLeftOpen (stopped : Ending) (served new : Outside) (run report : Report)
     (keeper0 keeper1 : KeeperState) (ending : KeptEnding) : Type 0 where
   pub is : ending ≡ Plain stopped
@@ -145,7 +145,7 @@ abbrev pub begun_at : Outside → StoreState → (traced : Option (List ℕ)) �
 begun_at old store traced =
     outside_of old.left old.gave old.written traced store old.faults
 
--- how it ends behind the session: closed where that came to its end
+-- how it ends after the session: closed where that came to its end
 abbrev pub EndsBehind : Ending → Base → KeySet → (tracing : Bool) → Story
     → (begun served new : Outside)
     → (run report : Report) → (keeper0 keeper1 : KeeperState) → KeptEnding → Type 0

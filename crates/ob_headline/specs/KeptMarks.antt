@@ -34,7 +34,7 @@ KeptRun words old new keeper0 keeper1 report =
 abbrev pub mark_made : Closing → Mark
 mark_made closing = if is_used_up closing then InUse else mark_of closing
 
--- behind a session that ended so: the store is in use, unless it was closed; either, where the keeper failed at the end
+-- after a session that ended so: the store is in use, unless it was closed; either, where the keeper failed at the end
 pub record HeldBehind (ending : KeptEnding) (closing : Closing) (held : Option Mark) : Type 0 where
   pub most : (held ≡ Some InUse) ⊎ (held ≡ Some (mark_made closing))
   pub whole : (refused : Bool) → ending ≡ Plain (Ran (Ok refused))

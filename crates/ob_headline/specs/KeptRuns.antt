@@ -7,7 +7,7 @@ use Rattle.ob_base.specs.declared.config.Config.{Config}
 use Rattle.ob_reopen.specs.declared.mark.Mark.{Mark}
 use Rattle.ob_headline.specs.Bases.{drawing, flying, start}
 use Rattle.ob_headline.specs.Failures.{failures}
-use Rattle.ob_headline.specs.Flights.{seats_alone, trace_of}
+use Rattle.ob_headline.specs.Flights.{positions_alone, trace_of}
 use Rattle.ob_headline.specs.KeptHeadline.{RunKept}
 use Rattle.ob_headline.specs.KeptMarks.{KeptRun}
 use Rattle.ob_headline.specs.Reruns.{EndsWell}
@@ -118,7 +118,7 @@ pub record AnswerAsOne {words : List Text} (secret : List ℕ) (runs : List (One
   pub alone : (first_of words secret).public.batch ≡ None → hows ≡ []
   pub answered : (after_all (first_of words secret) (all_spelt runs) hows).asked < 2 ^ 63
       → AnswersFrom (Ran (Ok (any_refused (all_answers runs))))
-      (seats_alone (first_of words secret) (all_seen runs)) (first_of words secret)
+      (positions_alone (first_of words secret) (all_seen runs)) (first_of words secret)
       (all_spelt runs) hows (all_answers runs) (all_seen runs) []
 
 -- ---- numbers over runs

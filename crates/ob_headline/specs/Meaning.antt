@@ -10,7 +10,7 @@ use Rattle.ob_verdict.specs.Outcomes.{outcome_of, Partly}
 use Rattle.ob_verdict.specs.declared.outcome.Outcome.TheVariants.{Refused}
 use Rattle.ob_headline.specs.Closing.{closing_line}
 use Rattle.ob_headline.specs.Endings.{is_tampered}
-use Rattle.ob_headline.specs.Flights.{EndedBy, OnBy, Seat, Stand, at_next, at_seat}
+use Rattle.ob_headline.specs.Flights.{EndedBy, OnBy, Position, LeftAt, at_next, at_position}
 use Rattle.ob_headline.specs.declared.ending.Ending.{Ending}
 use Rattle.ob_headline.specs.declared.ending.Ending.TheVariants.{Ran}
 use Rattle.ob_mean.specs.Prints.{Prints, Unfinished, labels_of}
@@ -70,7 +70,7 @@ PrintsTo (Ran (Err stop)) part text = PrintsUntil stop part text
 PrintsTo _ part text = part ≡ text
 
 -- of the one begun: it was stopped after n of its accesses, of which the last was refused as tampered or none was, and
--- a first part of its header and rows was emitted until then; where the model's index is full it is stopped behind the
+-- a first part of its header and rows was emitted until then; where the model's index is full it is stopped after the
 -- reads of its access at the latest, and a stop for that comes nowhere else
 pub record StopsAt (ending : Ending) (s : Session) (stmt : Stmt) (here : Seen)
     (part : List ℕ) : Type 0 where
@@ -101,7 +101,7 @@ pub record AnswersLast (ending : Ending) (s : Session) (stmt : Stmt) (here : See
 
 -- ---- one that flies
 -- how many of its accesses were carried out when its flight was left
-abbrev pub done_in : Ending → Stand → ℕ
+abbrev pub done_in : Ending → LeftAt → ℕ
 done_in ending stand = if is_tampered ending then stand.before else stand.own
 
 -- it was served
@@ -111,14 +111,14 @@ pub record HasEnded (s : Session) (stmt : Stmt) (here : Seen) : Type 0 where
   pub seen : here ≡ seen_or_cut how s stmt
 
 -- so, if it had ended when its flight was left, or it stands there
-abbrev pub StandsIn : Ending → Seat → Stand → Session → Stmt → Seen → Type 0
+abbrev pub StandsIn : Ending → Position → LeftAt → Session → Stmt → Seen → Type 0
 StandsIn ending v stand s stmt here =
     (EndedBy (Some stand) v × HasEnded s stmt here)
     ⊎ (OnBy (Some stand) v × StandsMeant s.draws s.public s.asked stand.own (done_in ending stand)
     s.tables stmt here here.end)
 
 -- it hadn't ended before, and a first part of its header and rows was emitted until then
-pub record EmitsPart (ending : Ending) (v : Seat) (stand : Stand) (s : Session) (stmt : Stmt)
+pub record EmitsPart (ending : Ending) (v : Position) (stand : LeftAt) (s : Session) (stmt : Stmt)
     (part : List ℕ) : Type 0 where
   pub on : v.asked + stand.all ≤ v.until
   pub events : List Event
@@ -136,23 +136,23 @@ pub record EmitsAll (ending : Ending) (s : Session) (stmt : Stmt) (here : Seen)
   pub answers : AnswersIn how s stmt answer
   pub printed : PrintsTo ending part answer.bytes
 
-abbrev pub StandsThere : Option Stand → Ending → Seat → Session → Stmt → Seen → Type 0
+abbrev pub StandsThere : Option LeftAt → Ending → Position → Session → Stmt → Seen → Type 0
 StandsThere None ending v s stmt here = ⊥
 StandsThere (Some stand) ending v s stmt here = StandsIn ending v stand s stmt here
 
--- of those behind it in its flight nothing was printed
-unfoldable pub StandBehind : Ending → List Seat → Session → List Spelt → List Served → Type 0
-StandBehind ending seats s [] seen = ⊤
-StandBehind ending seats s (Err at ∷ spelt) seen = ⊥
+-- of those after it in its flight nothing was printed
+unfoldable pub StandBehind : Ending → List Position → Session → List Spelt → List Served → Type 0
+StandBehind ending positions s [] seen = ⊤
+StandBehind ending positions s (Err at ∷ spelt) seen = ⊥
 StandBehind ending [] s (Ok stmt ∷ spelt) seen = ⊥
-StandBehind ending (v ∷ seats) s (Ok stmt ∷ spelt) [] = ⊥
-StandBehind ending (v ∷ seats) s (Ok stmt ∷ spelt) (x ∷ seen) =
-    StandsThere v.left ending v (at_seat v s) stmt x.seen
-    × StandBehind ending seats s spelt seen
+StandBehind ending (v ∷ positions) s (Ok stmt ∷ spelt) [] = ⊥
+StandBehind ending (v ∷ positions) s (Ok stmt ∷ spelt) (x ∷ seen) =
+    StandsThere v.left ending v (at_position v s) stmt x.seen
+    × StandBehind ending positions s spelt seen
 
 -- ---- the first that was begun
 -- by its flight, if that was left, or alone
-abbrev pub BeginsAt : Option Stand → Ending → Seat → Session → Stmt → Seen → (part : List ℕ)
+abbrev pub BeginsAt : Option LeftAt → Ending → Position → Session → Stmt → Seen → (part : List ℕ)
     → (behind : Type 0) → Type 0
 BeginsAt None ending v s stmt here part behind =
     StopsAt ending s stmt here part ⊎ AnswersLast ending s stmt here part
@@ -160,40 +160,40 @@ BeginsAt (Some stand) ending v s stmt here part behind =
     StandsIn ending v stand s stmt here
     × (EmitsPart ending v stand s stmt part ⊎ EmitsAll ending s stmt here part) × behind
 
-abbrev pub BeginsAnswer : Ending → List Seat → Session → Spelt → (behind : List Spelt)
+abbrev pub BeginsAnswer : Ending → List Position → Session → Spelt → (behind : List Spelt)
     → List Served → (part : List ℕ) → Type 0
-BeginsAnswer ending seats s (Err at) behind seen part = part ≡ (refused_at at).bytes
+BeginsAnswer ending positions s (Err at) behind seen part = part ≡ (refused_at at).bytes
 BeginsAnswer ending [] s (Ok stmt) behind seen part = ⊥
-BeginsAnswer ending (v ∷ seats) s (Ok stmt) behind [] part = ⊥
-BeginsAnswer ending (v ∷ seats) s (Ok stmt) behind (x ∷ seen) part =
-    BeginsAt v.left ending v (at_seat v s) stmt x.seen part
-    (StandBehind ending seats s behind seen)
+BeginsAnswer ending (v ∷ positions) s (Ok stmt) behind [] part = ⊥
+BeginsAnswer ending (v ∷ positions) s (Ok stmt) behind (x ∷ seen) part =
+    BeginsAt v.left ending v (at_position v s) stmt x.seen part
+    (StandBehind ending positions s behind seen)
 
 -- ---- all of them
 -- from a session of the model on: these statements, of which none meets a full stash, some are served with an INSERT before
 -- them, some fly, and the store cut some off, each at one of its accesses, are answered so, this is seen of each, and what was
 -- printed after them is a first part of the next answer
-unfoldable pub AnswersFrom : Ending → List Seat → Session → List Spelt → Broken → List Answer
+unfoldable pub AnswersFrom : Ending → List Position → Session → List Spelt → Broken → List Answer
     → List Served → (part : List ℕ) → Type 0
-AnswersFrom ending seats s [] broken answers seen part = (answers ≡ []) × (part ≡ [])
-AnswersFrom ending seats s (x ∷ spelt) broken [] seen part =
-    BeginsAnswer ending seats s x spelt seen part
-AnswersFrom ending seats s (Err at ∷ spelt) broken (one ∷ more) seen part =
-    (one ≡ refused_at at) × AnswersFrom ending seats s spelt (rest_of broken) more seen part
-AnswersFrom ending seats s (Ok stmt ∷ spelt) broken (one ∷ more) [] part = ⊥
+AnswersFrom ending positions s [] broken answers seen part = (answers ≡ []) × (part ≡ [])
+AnswersFrom ending positions s (x ∷ spelt) broken [] seen part =
+    BeginsAnswer ending positions s x spelt seen part
+AnswersFrom ending positions s (Err at ∷ spelt) broken (one ∷ more) seen part =
+    (one ≡ refused_at at) × AnswersFrom ending positions s spelt (rest_of broken) more seen part
+AnswersFrom ending positions s (Ok stmt ∷ spelt) broken (one ∷ more) [] part = ⊥
 AnswersFrom ending [] s (Ok stmt ∷ spelt) broken (one ∷ more) (x ∷ seen) part = ⊥
-AnswersFrom ending (v ∷ seats) s (Ok stmt ∷ spelt) broken (one ∷ more) (x ∷ seen) part =
-    (is_full_now (at_seat v s) stmt ≡ false) × IsCutOff (head_of broken) (at_seat v s) stmt
-    × AnswersIn (head_of broken) (at_seat v s) stmt one
-    × (x.seen ≡ seen_or_cut (head_of broken) (at_seat v s) stmt)
-    × AnswersFrom ending seats (after (head_of broken) (at_seat v s) stmt) spelt (rest_of broken)
+AnswersFrom ending (v ∷ positions) s (Ok stmt ∷ spelt) broken (one ∷ more) (x ∷ seen) part =
+    (is_full_now (at_position v s) stmt ≡ false) × IsCutOff (head_of broken) (at_position v s) stmt
+    × AnswersIn (head_of broken) (at_position v s) stmt one
+    × (x.seen ≡ seen_or_cut (head_of broken) (at_position v s) stmt)
+    × AnswersFrom ending positions (after (head_of broken) (at_position v s) stmt) spelt (rest_of broken)
     more seen part
 
--- the session behind these texts: these tables and these draws, by what the next statement goes by
-unfoldable pub session_after : List Seat → Session → List Spelt → Broken → Session
-session_after seats s [] broken = at_next seats s
-session_after seats s (Err at ∷ spelt) broken = session_after seats s spelt (rest_of broken)
+-- the session after these texts: these tables and these draws, by what the next statement goes by
+unfoldable pub session_after : List Position → Session → List Spelt → Broken → Session
+session_after positions s [] broken = at_next positions s
+session_after positions s (Err at ∷ spelt) broken = session_after positions s spelt (rest_of broken)
 session_after [] s (Ok stmt ∷ spelt) broken = s
-session_after (v ∷ seats) s (Ok stmt ∷ spelt) broken =
-    if is_full_now (at_seat v s) stmt then at_seat v s
-    else session_after seats (after (head_of broken) (at_seat v s) stmt) spelt (rest_of broken)
+session_after (v ∷ positions) s (Ok stmt ∷ spelt) broken =
+    if is_full_now (at_position v s) stmt then at_position v s
+    else session_after positions (after (head_of broken) (at_position v s) stmt) spelt (rest_of broken)

@@ -3,9 +3,9 @@ use Rattle.std.specs.Prelude.{◌≡◌, ◌≤◌, ◌+◌, ◌++◌, false, le
 use Rattle.ob_headline.specs.Bases.{drawing, public_with, session_at, start}
 use Rattle.ob_headline.specs.Batches.{meant_seen}
 use Rattle.ob_headline.specs.Disturbed.{meant_trace}
-use Rattle.ob_headline.specs.Flights.{seats_alone}
+use Rattle.ob_headline.specs.Flights.{positions_alone}
 use Rattle.ob_headline.specs.KeyLine.{after_line}
-use Rattle.ob_headline.specs.Reruns.{SomeRun, asked_by, keys_by, seats_by, seen_by}
+use Rattle.ob_headline.specs.Reruns.{SomeRun, asked_by, keys_by, positions_by, seen_by}
 use Rattle.ob_headline.specs.Texts.{texts_in}
 use Rattle.ob_headline.specs.Tracing.{traced}
 use Rattle.ob_headline.specs.Words.{Begins, SinksRose, Took, before_read}
@@ -17,7 +17,7 @@ use Rattle.ob_script.specs.Trace.{trace}
 pub record OneByOne (one : SomeRun) : Type 0 where
   pub begun : length one.run.story.spelt ≤ length one.run.story.served + 1
   pub one_last : length one.run.story.last ≤ 1
-  pub seats : seats_by one ≡ seats_alone (session_at one.base []) (seen_by one)
+  pub positions : positions_by one ≡ positions_alone (session_at one.base []) (seen_by one)
   pub asked : asked_by one ≡ one.base.before ++ trace one.base.public (seen_by one)
   pub traced_all : Outputs one.old.traced one.new.traced (SinksRose one.old.faults one.new.faults)
       (traced one.tracing (trace one.base.public (seen_by one)))

@@ -5,7 +5,7 @@ use Rattle.ob_base.specs.declared.refusal.Stop.TheVariants.{SinkFault, NoMemory}
 use Rattle.ob_print.specs.Cuts.{Outputs}
 use Rattle.ob_headline.specs.Bases.{Base}
 use Rattle.ob_headline.specs.Endings.{last_line}
-use Rattle.ob_headline.specs.Flights.{GoesOn, seats_of, trace_of, whole_of}
+use Rattle.ob_headline.specs.Flights.{GoesOn, positions_of, trace_of, whole_of}
 use Rattle.ob_headline.specs.Story.{Story}
 use Rattle.ob_headline.specs.Tracing.{traced}
 use Rattle.ob_headline.specs.Words.{Outside, SinksRose, Took, printed}
@@ -23,7 +23,7 @@ pub record Output (base : Base) (tracing : Bool) (ending : Ending) (story : Stor
   pub whole : Took old.written new.written (printed story.answers)
   pub through : Took old.written new.written (printed story.answers ++ story.part)
       ⊎ Rises old.faults.out new.faults.out
-  pub answered : GoesOn (drop (length story.seen) (seats_of base story.entries))
+  pub answered : GoesOn (drop (length story.seen) (positions_of base story.entries))
       ⊎ (Rises old.faults.out new.faults.out
       ⊎ ((ending ≡ Ran (Err SinkFault)) ⊎ (ending ≡ Ran (Err NoMemory))))
   pub silent : new.faults.trace ≢ old.faults.trace

@@ -1,7 +1,7 @@
 -- Before more is read each text is answered, unless it waits to be served with others.
 use Rattle.std.specs.Prelude.{ℕ, ◌≤◌, min, false, List, length}
 use Rattle.ob_base.specs.declared.config.Public.{Public}
-use Rattle.ob_headline.specs.Batches.{AnsweredBut}
+use Rattle.ob_headline.specs.Batches.{AnsweredExcept}
 use Rattle.ob_headline.specs.KeyLine.{after_line}
 use Rattle.ob_headline.specs.Texts.{texts_in}
 use Rattle.ob_headline.specs.Words.{before_read}
@@ -12,5 +12,5 @@ use Rattle.ob_headline.specs.Words.{before_read}
 pub record Prompt (p : Public) (most flown : ℕ) (taken : List ℕ) (served : List (List ℕ)) (gave : ℕ)
     : Type 0 where
   pub few : min gave (length taken) ≤ 4096
-  pub waits : AnsweredBut p most flown (texts_in false (after_line (before_read gave taken)))
+  pub waits : AnsweredExcept p most flown (texts_in false (after_line (before_read gave taken)))
       served

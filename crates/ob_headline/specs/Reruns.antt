@@ -4,12 +4,12 @@ use Rattle.clap.specs.Words.{App, Text}
 use Rattle.ob_base.specs.declared.access.Access.{Access}
 use Rattle.ob_base.specs.declared.config.Public.{Public}
 use Rattle.ob_base.specs.declared.seen.End.{End}
-use Rattle.ob_base.specs.declared.seen.End.TheVariants.{Static, Whole, Joined}
+use Rattle.ob_base.specs.declared.seen.End.TheVariants.{Static, Whole, Batched}
 use Rattle.ob_base.specs.declared.seen.Seen.{Seen}
 use Rattle.ob_verdict.specs.Outcomes.{refusal_now}
 use Rattle.ob_headline.specs.Bases.{Base, flying, fresh}
 use Rattle.ob_headline.specs.Failures.{failures}
-use Rattle.ob_headline.specs.Flights.{FliesNone, Seat, seats_of}
+use Rattle.ob_headline.specs.Flights.{FliesNone, Position, positions_of}
 use Rattle.ob_headline.specs.Headline.{Headline}
 use Rattle.ob_headline.specs.Settings.{IsTaken, IsTakenSaved, MeddleParses, flight_of, settings_of}
 use Rattle.ob_headline.specs.Usage.{is_traced, usage}
@@ -75,7 +75,7 @@ pub record Stated : Type 0 where
   pub stmt : Stmt
   pub apart : Bool
 
--- the statements among what texts spell, the first of which comes behind such a text or doesn't
+-- the statements among what texts spell, the first of which comes after such a text or doesn't
 unfoldable pub stated : (batched apart : Bool) → List Spelt → List Stated
 stated batched apart [] = []
 stated batched apart (Ok stmt ∷ spelt) =
@@ -92,8 +92,8 @@ abbrev pub seen_by : SomeRun → List Served
 seen_by one = one.run.story.seen ++ one.run.story.last
 
 -- by what each of its statements goes
-abbrev pub seats_by : SomeRun → List Seat
-seats_by one = seats_of one.base one.run.story.entries
+abbrev pub positions_by : SomeRun → List Position
+positions_by one = positions_of one.base one.run.story.entries
 
 abbrev pub asked_by : SomeRun → List Access
 asked_by one = one.new.store.asked
@@ -120,7 +120,7 @@ abbrev pub breaks_in : List Spelt → List Bool
 breaks_in spelt = map (λ (t : Stated). t.apart) (stated true false spelt)
 
 -- two runs whose SELECTs fly alike, if they do, and of whose statements the same is seen, of which the same ones come right
--- behind a text that is none
+-- after a text that is none
 pub record ShowTheSame (a b : SomeRun) : Type 0 where
   pub flight : a.base.flight ≡ b.base.flight
   pub breaks : breaks_in a.run.story.spelt ≡ breaks_in b.run.story.spelt
@@ -135,14 +135,14 @@ pub record EndsWell (status : ℕ) (failures : ℕ) : Type 0 where
 -- refused before any access, and else whether it was served with an INSERT before it
 abbrev pub seen_plainly : (refused joined : Bool) → Seen
 seen_plainly true joined = record { k = None; plan = None; then = None; leaf = None; end = Static }
-seen_plainly false true = record { k = None; plan = None; then = None; leaf = None; end = Joined }
+seen_plainly false true = record { k = None; plan = None; then = None; leaf = None; end = Batched }
 seen_plainly false false = record { k = None; plan = None; then = None; leaf = None; end = Whole }
 
 -- where so many INSERTs were gathered before it
 abbrev pub plainly : Public → ℕ → Option Gathering → Stmt → Seen
 plainly p m g stmt = seen_plainly (is_some (refusal_now p m stmt)) (goes_into p g (skeleton stmt))
 
--- what it may go into in its turn, and what is gathered behind it
+-- what it may go into in its turn, and what is gathered after it
 abbrev pub gathered_at : Option Gathering → Stated → Option Gathering
 gathered_at g t = if t.apart then None else g
 
@@ -225,7 +225,7 @@ shown_as p m g t seen = record {
   seen = if shows_more p t.stmt then seen else plainly_at p m g t;
 }
 
--- what is seen of statements of which none is cut off, but for those
+-- what is seen of statements of which none is cut off, except for those
 unfoldable pub shown : Public → ℕ → Option Gathering → List Stated → List Served → List Served
 shown p m g [] xs = []
 shown p m g (t ∷ ts) [] = []
@@ -255,7 +255,7 @@ AlikeSoFar p m g h (a ∷ ps) (x ∷ xs) (b ∷ qs) (y ∷ ys) =
 abbrev pub OneBegins : {A : Type 0} → (xs ys : List A) → Type 0
 OneBegins xs ys = Begins xs ys ⊎ Begins ys xs
 
--- a run asks a first part of one list, behind what it begins with: of the accesses that follow from the skeletons of its
+-- a run asks a first part of one list, after what it begins with: of the accesses that follow from the skeletons of its
 -- statements, from which are refused before any access and which are apart, and from what is seen of those that access an
 -- index, and of its SELECTs of rows that aren't padded
 abbrev pub AsksAsShown : SomeRun → Type 0
@@ -263,7 +263,7 @@ AsksAsShown one = Begins (asked_by one) (one.base.before ++ trace one.base.publi
     (shown one.base.public one.base.count None (stated_of one) (seen_by one)))
 
 -- if none of a run's statements flies, no text was answered that the store failed, and each accesses no index, and is no SELECT
--- of rows or has its result padded, what it asks is a first part of one list, however it ends: behind what it begins with, of the
+-- of rows or has its result padded, what it asks is a first part of one list, however it ends: after what it begins with, of the
 -- accesses that follow from the skeletons of its statements, and from which are refused before any access and which are apart
 abbrev pub AsksByKinds : {base : Base} {keys : List ℕ → KeySet} {Takes : Type 0}
     {tracing : Bool} {old new : Outside} {report : Report}

@@ -11,7 +11,7 @@ use Rattle.ob_headline.specs.Headline.{Headline}
 use Rattle.ob_headline.specs.Keeping.{kept_status}
 use Rattle.ob_headline.specs.KeptHeadline.{Unkeyed, Unserved, begun_at}
 use Rattle.ob_headline.specs.KeyLine.{first_line, secret_of}
-use Rattle.ob_headline.specs.Flights.{Seat, seats_of}
+use Rattle.ob_headline.specs.Flights.{Position, positions_of}
 use Rattle.ob_headline.specs.Meaning.{AnswersFrom, session_after}
 use Rattle.ob_headline.specs.Saving.{BeganSaved, NotBegunSaved, RestsAlike}
 use Rattle.ob_headline.specs.Statements.{SpellFirst, statements}
@@ -35,7 +35,7 @@ use Rattle.ob_sql.specs.declared.stmt.Stmt.{Stmt}
 use Rattle.ob_store.specs.State.{KeptRegion, StoreState}
 
 -- ---- before a statement is served
--- it ended at what the keeper held, or gave, while tables were opened, or right behind that
+-- it ended at what the keeper held, or gave, while tables were opened, or right after that
 abbrev pub UnbegunSaved : (settings : Option Config) → (Takes : Type 0) → (tracing : Bool)
     → (old new : Outside) → (keeper0 keeper1 : KeeperState) → (ending : KeptEnding)
     → (answers : List Answer) → (report : Report) → Type 0
@@ -45,22 +45,22 @@ UnbegunSaved settings Takes tracing old new keeper0 keeper1 ending answers repor
     answers report
 
 -- ---- what a session leaves
--- the session of the model behind the texts that were answered
-abbrev pub answered_by : List Seat → Session → List Spelt → List Answer → Broken → Session
-answered_by seats s spelt answers broken =
-    session_after seats s (take (length answers) spelt) (take (length answers) broken)
+-- the session of the model after the texts that were answered
+abbrev pub answered_by : List Position → Session → List Spelt → List Answer → Broken → Session
+answered_by positions s spelt answers broken =
+    session_after positions s (take (length answers) spelt) (take (length answers) broken)
 
--- the statements behind them that took effect: none, or the next one, and these
+-- the statements after them that took effect: none, or the next one, and these
 abbrev pub taken_by : (more : Option (List Stmt)) → List Spelt → List Answer → List Stmt
 taken_by None spelt answers = []
 taken_by (Some behind) spelt answers =
     statements (take 1 (drop (length answers) spelt)) ++ behind
 
--- the tables behind all of them, of which the store cut off none but answered ones
-abbrev pub left_by : (more : Option (List Stmt)) → List Seat → Session → List Spelt
+-- the tables after all of them, of which the store cut off none except answered ones
+abbrev pub left_by : (more : Option (List Stmt)) → List Position → Session → List Spelt
     → List Answer → Broken → Tables
-left_by more seats s spelt answers broken =
-    let t = answered_by seats s spelt answers broken in
+left_by more positions s spelt answers broken =
+    let t = answered_by positions s spelt answers broken in
     settle_all t.draws t.public t.asked (taken_by more spelt answers) t.tables
 
 -- the text begun and these statements are INSERTs into one table
@@ -70,7 +70,7 @@ pub record InsertTogether (story : Story) (behind : List Stmt) : Type 0 where
   pub table : List ℕ
   pub insert : AllInsert table (begun ∷ behind)
 
--- the texts behind the one begun spell these statements, which are served with it, if there are any: no more than a batch may
+-- the texts after the one begun spell these statements, which are served with it, if there are any: no more than a batch may
 -- have
 pub record GoAlong (most : ℕ) (story : Story) (behind : List Stmt) : Type 0 where
   pub few : length behind < most
@@ -87,17 +87,17 @@ pub record MayTake (most : ℕ) (ending : Ending) (story : Story) (behind : List
   pub more : MayTakeMore ending
   pub along : GoAlong most story behind
 
--- the tables behind the texts that were answered, or behind one more and what is served with it, rest for this mark under the
+-- the tables after the texts that were answered, or after one more and what is served with it, rest for this mark under the
 -- secret
 pub record RestsBehind (base : Base) (secret : List ℕ) (keys : KeySet) (ending : Ending)
     (story : Story) (mark : Mark) (kept : ℕ → Option KeptRegion) (s : Session) : Type 0 where
   pub broken : Broken
-  pub answered : AnswersFrom ending (seats_of base story.entries) (drawing keys s) story.spelt
+  pub answered : AnswersFrom ending (positions_of base story.entries) (drawing keys s) story.spelt
       broken story.answers (story.seen ++ story.last) story.part
   pub more : Option (List Stmt)
   pub unanswered : (behind : List Stmt) → more ≡ Some behind
       → MayTake (batch_most base.public) ending story behind
-  pub rests : RestsAlike secret mark kept (left_by more (seats_of base story.entries)
+  pub rests : RestsAlike secret mark kept (left_by more (positions_of base story.entries)
       (drawing keys s) story.spelt story.answers broken)
 
 -- the mark of a closing that the run wrote, under its own salt, with the check value of that under its secret
@@ -131,7 +131,7 @@ CountsKeeper _ old new = new.faults ≡ old.faults
 
 -- ---- a session
 -- the keeper gave a mark from which the run could begin, and a salt; a session went on from the tables that were opened, if
--- any were, under keys of the secret and of the salts, and nothing comes behind it
+-- any were, under keys of the secret and of the salts, and nothing comes after it
 pub record SessionSaved (settings : Option Config) (flight : Option FlightSettings)
     (Takes : Type 0) (tracing : Bool) (old new : Outside) (keeper0 keeper1 : KeeperState)
     (ending : KeptEnding) (answers : List Answer) (report : Report) : Type 0 where

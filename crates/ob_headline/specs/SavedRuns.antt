@@ -130,7 +130,7 @@ texts_more None spelt = []
 texts_more (Some behind) spelt = take 1 spelt ++ map Ok behind
 
 -- of texts that were answered so: each but those that the store had failed, and one more, if that did, with these statements
--- behind it
+-- after it
 unfoldable pub effects_of : (more : Option (List Stmt)) → List Spelt → List Answer → List Effect
 effects_of more spelt [] = unanswered (texts_more more spelt)
 effects_of more [] (one ∷ answers) = []
@@ -173,7 +173,7 @@ saved_effects more (inr (inl run)) = []
 saved_effects more (inr (inr run)) =
     effects_of more run.session.story.spelt run.session.story.answers
 
--- whether one more may have, which wasn't answered, with these statements behind it
+-- whether one more may have, which wasn't answered, with these statements after it
 abbrev pub MayHaveMore : {settings : Option Config} {flight : Option FlightSettings}
     {Takes : Type 0} {tracing : Bool} {old new : Outside} {keeper0 keeper1 : KeeperState}
     {ending : KeptEnding} {answers : List Answer} {report : Report}
@@ -276,7 +276,7 @@ AnsweredInOne s [] = ⊤
 AnsweredInOne s (e ∷ effects) =
     TakesEffect s e.text e.answer × AnsweredInOne (session_behind s e.text) effects
 
--- the session of the model from no tables, behind the texts that took effect
+-- the session of the model from no tables, after the texts that took effect
 abbrev pub one_run : (words : List Text) → List Effect → Session
 one_run words effects = after_all (start (saved_settings_of words)) (texts_of effects) []
 

@@ -18,7 +18,7 @@ use Rattle.ob_mean.specs.Verdict.{Tables}
 use Rattle.ob_reopen.specs.Keepers.{DrawsSalt, GivesMark, KeeperState, SetsMark}
 use Rattle.ob_reopen.specs.Limits.{IsCatalogue}
 use Rattle.ob_reopen.specs.Reopened.{NotOpened, opened_start, opening_script}
-use Rattle.ob_reopen.specs.Resting.{Rests}
+use Rattle.ob_reopen.specs.Resting.{IsAtRest}
 use Rattle.ob_reopen.specs.Saved.{RestsBy, reopening_keys}
 use Rattle.ob_reopen.specs.declared.closing.Closing.{Closing}
 use Rattle.ob_reopen.specs.declared.fault.OpenErr.{OpenErr}
@@ -28,7 +28,7 @@ use Rattle.ob_seal.specs.KeySet.{KeySet}
 use Rattle.ob_seal.specs.Sealed.{check_of, keys_salted}
 use Rattle.ob_store.specs.Calls.{IsBare, Sweeps, Syncs}
 use Rattle.ob_store.specs.Runs.{Did}
-use Rattle.ob_store.specs.State.{KeptRegion, Lie, StoreState}
+use Rattle.ob_store.specs.State.{KeptRegion, FalseRead, StoreState}
 use Rattle.ob_vault.specs.Tied.{TagFits}
 use Rattle.ob_verdict.specs.Alike.{AreAlike}
 
@@ -83,7 +83,7 @@ pub record BeginsAnew (config : Config) (secret salt : List ℕ) (keys : KeySet)
 pub record StaysAtRest (secret : List ℕ) (closed : Option (List ℕ)) (closing : Closing)
     (keys : KeySet) (base : Base) (old new : StoreState) (tables : Tables) : Type 0 where
   pub rests : RestsBy secret closed closing new.kept tables
-  pub under : Rests keys closing old.kept tables
+  pub under : IsAtRest keys closing old.kept tables
   pub listed : headings tables ≡ headings_of base.public.tables
 
 -- the tables of a closing were opened, which a run wrote that had this salt, or none: under keys of the secret and of a salt
@@ -103,7 +103,7 @@ pub record ReopensSaved (closed : Option (List ℕ)) (closing : Closing) (config
   })
   pub did : Did (opening_script closing listed) old new
   pub tells : new.tells ≡ old.tells
-  pub fits : (lie : Lie) → new.lie ≡ Some lie → TagFits keys (opened_start closing listed) lie
+  pub fits : (lie : FalseRead) → new.lie ≡ Some lie → TagFits keys (opened_start closing listed) lie
   pub opened : StoreState
   pub sweeps : Sweeps opened new
   pub told : IsTrue old.tells → new.lie ≡ None → (tables : Tables)
@@ -265,7 +265,7 @@ EndsMarked (Err failed) config secret ending old new fault0 fault1 read keeper1 
     (ending ≡ KeeperFault) × (new ≡ old) × (keeper1 ≡ read)
 
 -- the run ended before a statement could be served: at what the keeper held, or gave, while tables were opened, or right
--- behind that
+-- after that
 pub record NotBegunSaved (config : Config) (secret : List ℕ) (ending : KeptEnding)
     (old new : StoreState) (fault0 fault1 : ℕ) (keeper0 keeper1 : KeeperState) : Type 0 where
   pub mark : Result Mark Failed

@@ -79,7 +79,7 @@ pub record IsAlone (start : Start) (asked : List Access) (i : ℕ) : Type 0 wher
       → number_at start asked i < number_at start asked j
 
 -- ---- blocks
--- behind these accesses a block is sealed for its place, under the number of a write to it: of the last one, unless a call
+-- after these accesses a block is sealed for its place, under the number of a write to it: of the last one, unless a call
 -- of the run has failed
 pub record IsShown (good : List ℕ → Bool) (keys : KeySet) (start : Start) (Failed : Type 0)
     (asked : List Access) (region place : ℕ) (block : List ℕ) : Type 0 where
@@ -99,7 +99,7 @@ pub record Shows (Passes : (List ℕ → Bool) → Type 0) (keys : KeySet) (star
       → IsShown good keys start (Rises old.faults new.faults) new.asked region place block
 
 -- ---- whole runs
--- the first region that a run makes is the one behind those of earlier runs, which wrote to none from there on
+-- the first region that a run makes is the one after those of earlier runs, which wrote to none from there on
 pub record IsBegun (base : Base) : Type 0 where
   pub next : base.public.next_region ≡ base.start.region + 1
   pub fresh : (region place : ℕ) → base.start.region < region
@@ -121,7 +121,7 @@ abbrev pub IsLeft : SomeRun → (between : StoreState) → (region place : ℕ) 
 IsLeft one between region place =
     (i : ℕ) → Wrote (asked_by one) i region place → i < length between.asked
 
--- a state of the store within a run, behind some of its accesses: where a region lives on, its places hold what they held,
+-- a state of the store within a run, after some of its accesses: where a region lives on, its places hold what they held,
 -- unless they are written. Each call of a store leaves them so.
 pub record IsBetween (one : SomeRun) (between : StoreState) : Type 0 where
   pub begins : Begins between.asked (asked_by one)
@@ -142,15 +142,15 @@ pub record ShowsBetween (one : SomeRun) (between : StoreState) : Type 0 where
       → LivesOn between one.new.store region → between.last region place ≡ Some block
       → IsLeft one between region place → IsShownIn one between region place block
 
--- the accesses of the first k entries, which are statements that are served alone, and flights, behind what the run begins
--- with, and what is public behind them
+-- the accesses of the first k entries, which are statements that are served alone, and flights, after what the run begins
+-- with, and what is public after them
 abbrev pub asked_behind : SomeRun → (k : ℕ) → List Access
 asked_behind one k = one.base.before ++ trace_of one.base (take k one.run.story.entries)
 
 abbrev pub public_behind : SomeRun → (k : ℕ) → Public
 public_behind one k = public_after one.base (take k one.run.story.entries)
 
--- behind the first k of them each one is of a region that was made by then, is no index's and lives on to the end of the run
+-- after the first k of them each one is of a region that was made by then, is no index's and lives on to the end of the run
 pub record ShowsBehind (one : SomeRun) (k : ℕ) (between : StoreState) : Type 0 where
   pub each : (region place : ℕ) (block : List ℕ) → one.base.start.region < region
       → region < (public_behind one k).next_region

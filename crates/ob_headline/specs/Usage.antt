@@ -47,7 +47,7 @@ abbrev pub kept_usage : App
 kept_usage = nameless (with_rule (with_rule (with_rule (common (codes "oblidb"))
     (valued (codes "store"))) (flag (codes "keep"))) (valued (codes "mark")))
 
--- of a program that may save them behind each statement, too
+-- of a program that may save them after each statement, too
 abbrev pub saved_usage : App
 saved_usage = nameless (with_rule (with_rule (with_rule (with_rule (common (codes "oblidb"))
     (valued (codes "store"))) (flag (codes "keep"))) (valued (codes "mark"))) (flag (codes "save")))
@@ -84,7 +84,7 @@ is_traced app words = is_set (value_of app words (codes "trace"))
 abbrev pub is_kept : List Text → Bool
 is_kept words = is_set (value_of kept_usage words (codes "keep"))
 
--- whether the tables are to be saved behind each statement that changes them
+-- whether the tables are to be saved after each statement that changes them
 abbrev pub is_saved : List Text → Bool
 is_saved words = is_set (value_of saved_usage words (codes "save"))
 

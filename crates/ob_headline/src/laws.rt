@@ -18,7 +18,7 @@ ghost use Rattle.ob_headline.specs.Pieces.{BeginsWith};
 ghost use Rattle.ob_headline.specs.Plainly.{IsUnhindered, RunsPlainly};
 ghost use Rattle.ob_headline.specs.Reruns.{Alike, AlikeSoFar, AsksAsShown, AsksByKinds, EndsWell, GoOnFromOne, IsPlain};
 ghost use Rattle.ob_headline.specs.Reruns.{OneBegins, ServesAlone, ShowAlike, ShowTheSame, SomeRun, any_counted, asked_by, failures_of};
-ghost use Rattle.ob_headline.specs.Reruns.{keys_by, plainly, seats_by, seen_by, stated_of};
+ghost use Rattle.ob_headline.specs.Reruns.{keys_by, plainly, positions_by, seen_by, stated_of};
 ghost use Rattle.ob_headline.specs.SaltedHeadline.{own_keys};
 ghost use Rattle.ob_headline.specs.SaltedRuns.{AnySalted, HaveSalts, SealsIn};
 ghost use Rattle.ob_headline.specs.SavedRuns.{AnswerInOne, AnySaved, GoOnSaved, HaveOwnSalts, IsOfOther, IsToldWrong};
@@ -47,7 +47,7 @@ ghost use Rattle.ob_vault.specs.Tied.{at_of};
 
 /// The texts that a session cuts, a byte at a time, are the pieces that `split` finds in its bytes, one after the
 /// other, while none comes to the limit of a text: the first piece is the first text, or none where it holds nothing,
-/// and the others are those of the bytes behind it.
+/// and the others are those of the bytes after it.
 pub fn texts_are_pieces()
     ensures { (bytes : List ℕ) → is_over (rest_of [] bytes) ≡ false
         → BeginsWith bytes (texts_of [] bytes) (rest_of [] bytes) (cut bytes) }
@@ -71,7 +71,7 @@ pub fn shows_its_refusal_alone()
 /// the store failed, its accesses are a first part of one list, which follows from the settings, the skeletons of the
 /// statements, which of these were refused before any access, and what is seen of those that access an index and of SELECTs
 /// of rows whose results aren't padded: by the words of any program, from no tables or from those of an earlier run. Where
-/// INSERTs are served together, it follows, too, from which statements come right behind a text that is none, and so go
+/// INSERTs are served together, it follows, too, from which statements come right after a text that is none, and so go
 /// into no batch with those before.
 pub fn asks_as_shown()
     ensures { (one : SomeRun) → ServesAlone one → failures_of one ≡ 0 → AsksAsShown one }
@@ -91,12 +91,12 @@ pub fn one_asks_a_first_part()
 /// of the secret, and no draw is read twice, whatever the statements, their values and their rows.
 pub fn leaves_are_draws()
     ensures { (one : SomeRun)
-        → ReadsDraws (draw_of (keys_by one)) (seats_by one) (seen_by one) }
+        → ReadsDraws (draw_of (keys_by one)) (positions_by one) (seen_by one) }
 {}
 
 /// Two runs that go on from the same, over any stores, that came to their end, ask the same where the same is seen of their
 /// statements, also where SELECTs fly, alike in both: which ones fly together follows from what is seen and from which come
-/// right behind a text that is none.
+/// right after a text that is none.
 pub fn flown_runs_ask_the_same()
     ensures { (a b : SomeRun) → GoOnFromOne a b → a.report.status ≤ 1 → b.report.status ≤ 1
         → ShowTheSame a b → asked_by a ≡ asked_by b }
@@ -122,7 +122,7 @@ pub fn unhindered_runs_are_plain()
 /// Two runs that go on from the same, over any stores, that came to their end, of which no statement flies, and no text was
 /// answered that the store failed, ask the same, whatever their literals and their rows: if none of their statements is a
 /// SELECT of rows, none accesses an index, their skeletons are the same, the same ones are refused before any access, and,
-/// where INSERTs are served together, the same ones come right behind a text that is none.
+/// where INSERTs are served together, the same ones come right after a text that is none.
 pub fn reruns_ask_the_same()
     ensures { (a b : SomeRun) → ServesAlone a → ServesAlone b → GoOnFromOne a b
         → EndsWell a.report.status (failures_of a) → EndsWell b.report.status (failures_of b)
@@ -133,7 +133,7 @@ pub fn reruns_ask_the_same()
 
 /// Two such runs with `--pad`, over any stores, ask the same, whatever their literals and their rows and however many rows
 /// are selected: if none of their statements accesses an index, their skeletons are the same, the same ones are refused
-/// before any access, and, where INSERTs are served together, the same ones come right behind a text that is none.
+/// before any access, and, where INSERTs are served together, the same ones come right after a text that is none.
 pub fn padded_reruns_ask_the_same()
     ensures { (a b : SomeRun) → ServesAlone a → ServesAlone b → GoOnFromOne a b
         → EndsWell a.report.status (failures_of a) → EndsWell b.report.status (failures_of b)
@@ -152,7 +152,7 @@ pub fn reruns_show_the_same()
 {}
 
 /// The mark that a keeper holds, where it tells, once a run with `--keep` ended. Before the first statement it is the one
-/// that was held. Behind a session that came to its end, and whose tables were closed, it is the one of that closing, and
+/// that was held. After a session that came to its end, and whose tables were closed, it is the one of that closing, and
 /// else the store is in use. Where the keeper failed it may have changed the mark, or not.
 pub fn marks_are_held()
     ensures { (words : List Text) (old new : Outside) (keeper0 keeper1 : KeeperState)
@@ -194,7 +194,7 @@ pub fn asks_by_kinds()
 {}
 
 /// Where none flies, each statement of a run that accesses no index writes to the regions that it makes, and to no other,
-/// and one that accesses an index to regions of an index. In any run, behind a statement, or behind the flight that it was
+/// and one that accesses an index to regions of an index. In any run, after a statement, or after the flight that it was
 /// in, nothing is written to a region that was made by then and is no index's. So it is whatever the store does and however
 /// the run ends.
 pub fn statements_write_their_own()
@@ -207,8 +207,8 @@ pub fn statements_write_their_own()
 
 /// Over a store that tells what it holds, however a run ends, each block that lies in a live region that the run made is
 /// sealed for its place, under a number that is that of a write to it, and of no other write, of this run or of an earlier
-/// one. So it is at the end; behind any of the accesses, if the region is live to the end, where the place isn't written
-/// again; and so, behind each statement, or behind the flight that it was in, of all blocks of the regions that were made
+/// one. So it is at the end; after any of the accesses, if the region is live to the end, where the place isn't written
+/// again; and so, after each statement, or after the flight that it was in, of all blocks of the regions that were made
 /// by then, are no index's, and are live to the end.
 pub fn blocks_are_sealed_alone()
     ensures ends { (one : SomeRun) → IsBegun one.base → ShowsSealed one }
@@ -246,7 +246,7 @@ pub fn blocks_are_numbered_alike()
 {}
 
 /// The mark that a keeper holds, where it tells, once a run with `--save` ended, in whichever way and whichever calls of
-/// the store and of the keeper failed: the one that was held, or `Begun` in place of a fresh one, or, behind a session, one
+/// the store and of the keeper failed: the one that was held, or `Begun` in place of a fresh one, or, after a session, one
 /// that names tables which this run saved, under its own salt. If no statement was served, what rested for the mark that
 /// was held rests for it.
 pub fn saved_marks_are_held()
@@ -275,7 +275,7 @@ pub fn wrong_secrets_are_told()
 /// Runs with the same words, `--save` among them and `--flight` not, and of one secret, each ended in any way, the first
 /// over a fresh mark and each later one over the mark and the regions that the one before it left, where the store tells
 /// and gave what was written: they answer as one run does over the texts that took effect, which are those that were
-/// answered otherwise than that the store had failed, and for each run maybe one more, with INSERTs behind it that are
+/// answered otherwise than that the store had failed, and for each run maybe one more, with INSERTs after it that are
 /// served together with it, and what rests then is what that run leaves. Only that so many accesses were asked that a
 /// statement is refused for it may come at another place.
 pub fn saved_runs_answer_as_one()

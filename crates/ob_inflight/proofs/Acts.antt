@@ -8,11 +8,11 @@ use Rattle.ob_flat.specs.declared.fault.OpErr.{OpErr}
 use Rattle.ob_flat.specs.declared.fault.OpErr.TheVariants.{Failed, Tampered, Sink, NoMemory}
 use Rattle.ob_flat.specs.Passes.{PassCut, PassCause}
 use Rattle.ob_script.specs.Flights.{made_by}
-use Rattle.ob_store.specs.State.{Lie}
+use Rattle.ob_store.specs.State.{FalseRead}
 use Rattle.ob_vault.specs.Calls.{Lasts}
 use Rattle.ob_vault.specs.Numbers.{spent}
 use Rattle.ob_vault.specs.State.{Start, World, earlier}
-use Rattle.ob_vault.specs.Tied.{Calm, EndsAt, ReadsIn, Ready}
+use Rattle.ob_vault.specs.Tied.{Untampered, EndsAt, ReadsIn, Ready}
 use Rattle.ob_inflight.specs.Closing.{RisesBy}
 use Rattle.ob_inflight.specs.Leaving.{own_or_next}
 use Rattle.ob_script.specs.FlightLaws.{one_if}
@@ -40,7 +40,7 @@ module _ (access : Access) (own : Option ℕ) (w v : World) where
   step_faults false went = let e = went.did.faults in record { least = omega (arith, e); none = λ no. e }
   step_faults true cut = let e = cut.cause.0 in record { least = e; none = λ no. absurd (omega (arith, no)) }
 
-  pub step_calm : (failed : Bool) → WentOrFailed failed access own w v → Calm w → Calm v
+  pub step_calm : (failed : Bool) → WentOrFailed failed access own w v → Untampered w → Untampered v
   step_calm false went = went.calm
   step_calm true cut = cut.cause.1
 
@@ -62,7 +62,7 @@ spent_more a w v start asked =
     omega (arith, long, s)
 
 module _ (next : ℕ) (before after : Option ℕ) where
-  -- the region behind an access is that before it, or the next one, which was made in it
+  -- the region after an access is that before it, or the next one, which was made in it
   pub data Region : Access → Type 0 where
     Same : {a : Access} → after ≡ before → made_by (Some a) ≡ 0 → Region a
     Next : {a : Access} → before ≡ None → after ≡ Some next → made_by (Some a) ≡ 1 → Region a
@@ -108,19 +108,19 @@ rises_join n m sum a b c is first second = record {
 
 -- ---- the first block that is not what was written
 -- no lie is told: the vault is calm
-pub calm_none : (w : World) → w.store.lie ≡ None → Calm w
+pub calm_none : (w : World) → w.store.lie ≡ None → Untampered w
 calm_none w none = record { calm = λ lie is. absurd (cc (none, is)); within = λ lie is. absurd (cc (none, is)) }
 
-pub reads_calm : (v : World) (lie : Lie) → v.store.lie ≡ Some lie → Calm v → ReadsIn lie v.store.asked
+pub reads_calm : (v : World) (lie : FalseRead) → v.store.lie ≡ Some lie → Untampered v → ReadsIn lie v.store.asked
 reads_calm v lie is calm = calm.within lie is
 
-pub reads_ends : (v : World) (lie : Lie) (q x : ℕ) → v.store.lie ≡ Some lie → EndsAt q x v → ReadsIn lie v.store.asked
+pub reads_ends : (v : World) (lie : FalseRead) (q x : ℕ) → v.store.lie ≡ Some lie → EndsAt q x v → ReadsIn lie v.store.asked
 reads_ends v lie q x is ends =
     let same : ends.lie ≡ lie = cc (ends.told, is) in
-    subst (λ (l : Lie). ReadsIn l v.store.asked) same (record { rest = []; is = sym ends.asked })
+    subst (λ (l : FalseRead). ReadsIn l v.store.asked) same (record { rest = []; is = sym ends.asked })
 
 -- it came in a step that gave up, so that step read it
-pub reads_cut : (e : OpErr) (access : List Access) (some : ℕ → Type 0) (w v : World) (lie : Lie) → w.store.lie ≡ None → v.store.lie ≡ Some lie → PassCut e access some w v → ReadsIn lie v.store.asked
+pub reads_cut : (e : OpErr) (access : List Access) (some : ℕ → Type 0) (w v : World) (lie : FalseRead) → w.store.lie ≡ None → v.store.lie ≡ Some lie → PassCut e access some w v → ReadsIn lie v.store.asked
 reads_cut e access some w v lie none is cut = go e cut.cause
   where
     go : (e : OpErr) → PassCause e w v → ReadsIn lie v.store.asked
@@ -132,7 +132,7 @@ reads_cut e access some w v lie none is cut = go e cut.cause
     go Sink cause = reads_calm v lie is (cause.1 (calm_none w none))
     go NoMemory cause = reads_calm v lie is (cause.1 (calm_none w none))
 
-pub reads_more : (lie : Lie) (asked more : List Access) → ReadsIn lie asked → ReadsIn lie (asked ++ more)
+pub reads_more : (lie : FalseRead) (asked more : List Access) → ReadsIn lie asked → ReadsIn lie (asked ++ more)
 reads_more lie asked more is = record {
   rest = is.rest ++ more;
   is = sym (append_one lie.before (Read lie.region lie.place) is.rest more) ∙ ap (λ (l : List Access). l ++ more) is.is;

@@ -1,4 +1,4 @@
--- What was emitted behind one turn.
+-- What was emitted after one turn.
 use Rattle.std.proofs.Common.{◌≡◌, ℕ, ◌+◌, List, [], ◌∷◌, ◌++◌, length, refl, sym, subst, arith}
 use Rattle.std.specs.Prelude.{Err}
 use Rattle.ob_base.specs.Events.{EmitCause, Event, Leads}

@@ -1,4 +1,4 @@
--- How all stand behind an end.
+-- How all stand after an end.
 use Rattle.std.proofs.Common.{◌≡◌, inl, inr, ℕ, ◌+◌, ◌*◌, ◌<◌, List, [], ◌∷◌, ◌++◌, Some, None, Option, length, sym, ◌∙◌, ap, subst, arith}
 use Rattle.std.specs.Prelude.{is_some, slice_get, slice_set}
 use Rattle.std.proofs.lemmas.Bool.{cases_eq}
@@ -10,7 +10,7 @@ use Rattle.ob_vault.specs.Numbers.{spent}
 use Rattle.ob_vault.specs.State.{World}
 use Rattle.ob_vault.specs.Tied.{Ready}
 use Rattle.ob_verdict.specs.declared.outcome.Outcome.{Outcome}
-use Rattle.ob_inflight.specs.Aloft.{AreFlying, IsMade, LeavesRest}
+use Rattle.ob_inflight.specs.AfterTurns.{AreFlying, IsMade, LeavesRest}
 use Rattle.ob_inflight.specs.Closing.{Closed, RisesBy, events_at, outcome_at}
 use Rattle.ob_inflight.specs.Kinds.{Kind, Moment, moment, share_at}
 use Rattle.ob_script.specs.FlightLaws.{one_if, total}

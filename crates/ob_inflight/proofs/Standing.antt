@@ -1,4 +1,4 @@
--- How all stand behind one turn.
+-- How all stand after one turn.
 use Rattle.std.proofs.Common.{◌≡◌, ◌⊎◌, inl, inr, ℕ, zero, suc, ◌+◌, ◌*◌, ◌<◌, ◌≤◌, Bool, true, false, List, [], ◌∷◌, ◌++◌, Some, None, length, refl, sym, ◌∙◌, ap, subst, arith}
 use Rattle.std.specs.Prelude.{is_some, slice_get, slice_set}
 use Rattle.std.proofs.lemmas.Bool.{cases_eq, cases_lt}
@@ -11,7 +11,7 @@ use Rattle.ob_script.specs.Trace.{Served}
 use Rattle.ob_vault.proofs.Runs.{lasts_trans, lasts_wider, seals_join}
 use Rattle.ob_vault.specs.Calls.{Lasts}
 use Rattle.ob_vault.specs.Rows.{SameSizes}
-use Rattle.ob_inflight.specs.Aloft.{AllFit, AllMay, AreFlying, IsMade, KeepCourse, KeepsOn, LeavesRest, booked_by, failed_of, most_of}
+use Rattle.ob_inflight.specs.AfterTurns.{AllFit, AllMay, AreFlying, IsMade, KeepCourse, KeepsOn, LeavesRest, booked_by, failed_of, most_of}
 use Rattle.ob_inflight.specs.Closing.{Closed, events_at, outcome_at}
 use Rattle.ob_inflight.specs.Kinds.{Kind, Moment, share_at}
 use Rattle.ob_inflight.specs.Leaving.{Leaves, own_or_next}
@@ -251,7 +251,7 @@ course_next {F} k start last now i f g at flyers same course = record {
   ];
 }
 
--- ---- what was so is so behind one turn more
+-- ---- what was so is so after one turn more
 -- of those that had ended none was picked
 pub keeps_next : {F : Type 0} (k : Kind F) (before more : List Closed) (last now : Moment F) (i : ℕ) (f g : F) → slice_get last.flyers i ≡ Some f → now.flyers ≡ slice_set last.flyers i g
     → (k.progress f).outcome ≡ None → ((k.progress f).failed ≡ true → ((k.progress g).served ≡ (k.progress f).served) × ((k.progress g).failed ≡ true)) → ((x : Served) → k.May g x → k.May f x)

@@ -11,10 +11,10 @@ use Rattle.ob_script.specs.Flights.{accesses_in, turns}
 use Rattle.ob_script.specs.Trace.{Served}
 use Rattle.ob_store.proofs.Steps.{later_refl, later_trans}
 use Rattle.ob_store.specs.Runs.{Began, Later}
-use Rattle.ob_store.specs.State.{Lie}
+use Rattle.ob_store.specs.State.{FalseRead}
 use Rattle.ob_vault.specs.State.{World}
 use Rattle.ob_vault.specs.Tied.{ReadsIn}
-use Rattle.ob_inflight.specs.Aloft.{AllMay, BeginsIn, HasGoneOn, HasStood, HaveGoneOn, HaveStood, IsAloft, IsBegun, KeepsOn, setting_off}
+use Rattle.ob_inflight.specs.AfterTurns.{AllMay, BeginsIn, HasGoneOn, HasStood, HaveGoneOn, HaveStood, IsInFlight, IsBegun, KeepsOn, setting_off}
 use Rattle.ob_inflight.specs.Closing.{Closed}
 use Rattle.ob_inflight.specs.Kinds.{Kind, Moment}
 use Rattle.ob_inflight.specs.Progress.{Progress}
@@ -73,7 +73,7 @@ pub past_still : {F : Type 0} (k : Kind F) (words : ℕ → ℕ) (p : Public) (s
 past_still k words p share turn ended_last ended_now start last now keeps later past n le = stood_still k words p share n ended_last ended_now start last now keeps later (past n le)
 
 -- they stand so now
-pub past_now : {F : Type 0} (k : Kind F) (words : ℕ → ℕ) (p : Public) (share turn : ℕ) (ended : List Closed) (current : List Event) (start now : Moment F) → IsAloft k words turn p share ended current start now
+pub past_now : {F : Type 0} (k : Kind F) (words : ℕ → ℕ) (p : Public) (share turn : ℕ) (ended : List Closed) (current : List Event) (start now : Moment F) → IsInFlight k words turn p share ended current start now
     → ((n : ℕ) → n < turn → HasStood k words p share n ended start now) → HaveStood k words p share turn ended start now
 past_now k words p share turn ended current start now aloft before n le = elim (cases_lt n turn) [
   | inl less ↦ before n less
@@ -84,7 +84,7 @@ past_now k words p share turn ended current start now aloft before n le = elim (
 ]
 
 -- one turn more was taken, from one where they stood so
-pub went_on : {F : Type 0} (k : Kind F) (words : ℕ → ℕ) (p : Public) (share n : ℕ) (ended ended_now : List Closed) (current : List Event) (start last now : Moment F) → IsAloft k words n p share ended current start last
+pub went_on : {F : Type 0} (k : Kind F) (words : ℕ → ℕ) (p : Public) (share n : ℕ) (ended ended_now : List Closed) (current : List Event) (start last now : Moment F) → IsInFlight k words n p share ended current start last
     → (keeps : KeepsOn k ended ended_now last now) → Later last.world.store now.world.store
     → (log : List (ℕ × Access)) → ((xs : List Served) → AllMay k.May last.flyers xs → (turns words (n + 1) (setting_off p start.world.vault.next xs)).log ≡ log)
     → HaveGoneOn k words p share n ended start last → HaveGoneOn k words p share (n + 1) ended_now start now
@@ -99,7 +99,7 @@ went_on k words p share n ended ended_now current start last now aloft keeps lat
       (record { stood = record { last = last; ended = ended; current = current; aloft = aloft; keeps = keeps; later = later }; log = log; next = next })
 ]
 
-begins_still : {F : Type 0} (k : Kind F) (words : ℕ → ℕ) (p : Public) (share : ℕ) (lie : Lie) (ended_last ended_now : List Closed) (start last now : Moment F) → KeepsOn k ended_last ended_now last now
+begins_still : {F : Type 0} (k : Kind F) (words : ℕ → ℕ) (p : Public) (share : ℕ) (lie : FalseRead) (ended_last ended_now : List Closed) (start last now : Moment F) → KeepsOn k ended_last ended_now last now
     → Later last.world.store now.world.store → BeginsIn k words p share lie ended_last start last → BeginsIn k words p share lie ended_now start now
 unfolding stood_still
 begins_still k words p share lie ended_last ended_now start last now keeps later was = record {
@@ -111,7 +111,7 @@ begins_still k words p share lie ended_last ended_now start last now keeps later
 }
 
 module _ {F : Type 0} (k : Kind F) (words : ℕ → ℕ) (n : ℕ) (p : Public) (share : ℕ) (ended : List Closed) (current : List Event) (start last : Moment F)
-    (aloft : IsAloft k words n p share ended current start last) (now : Moment F) where
+    (aloft : IsInFlight k words n p share ended current start last) (now : Moment F) where
   abbrev v : World
   v = now.world
 
@@ -131,12 +131,12 @@ module _ {F : Type 0} (k : Kind F) (words : ℕ → ℕ) (n : ℕ) (p : Public) 
     }
 
     -- a lie that came in that was read in it
-    pub begun_next : ((lie : Lie) → last.world.store.lie ≡ None → v.store.lie ≡ Some lie → ReadsIn lie v.store.asked)
+    pub begun_next : ((lie : FalseRead) → last.world.store.lie ≡ None → v.store.lie ≡ Some lie → ReadsIn lie v.store.asked)
         → Later last.world.store v.store
         → (ended_now : List Closed) → KeepsOn k ended ended_now last now → HaveStood k words p share n ended start last → IsBegun k words p share ended start last → IsBegun k words p share ended_now start now
     begun_next reads later ended_now keeps past before none lie is = go last.world.store.lie refl
       where
-        go : (o : Option Lie) → last.world.store.lie ≡ o → BeginsIn k words p share lie ended_now start now
+        go : (o : Option FalseRead) → last.world.store.lie ≡ o → BeginsIn k words p share lie ended_now start now
         go (Some other) was = let same : other ≡ lie = cc (later.lie other was, is) in begins_still k words p share lie ended ended_now start last now keeps later (before none lie (was ∙ ap Some same))
         go None was = record {
           turn = n;

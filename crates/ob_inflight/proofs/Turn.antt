@@ -17,10 +17,10 @@ use Rattle.ob_vault.proofs.WorldSteps.{lasts_none}
 use Rattle.ob_vault.specs.Rows.{SameSizes}
 use Rattle.ob_flat.specs.Flats.{Accepts}
 use Rattle.ob_verdict.specs.declared.outcome.Outcome.{Outcome}
-use Rattle.ob_inflight.specs.Aloft.{AllFit, AllMay, AreBoarded, AreFlying, IsAloft, IsBegun, KeepsOn, LeavesRest, most_of, setting_off}
+use Rattle.ob_inflight.specs.AfterTurns.{AllFit, AllMay, AreBoarded, AreFlying, IsInFlight, IsBegun, KeepsOn, LeavesRest, most_of, setting_off}
 use Rattle.ob_inflight.specs.Answers.{More}
 use Rattle.ob_inflight.specs.Closing.{Closed, ClosesAll, RisesBy, events_at}
-use Rattle.ob_inflight.specs.Flown.{HasFlown, StopsFlight, StopsInClosing, StopsInFinish}
+use Rattle.ob_inflight.specs.FlightOutcome.{HasFlown, StopsFlight, StopsInClosing, StopsInFinish}
 use Rattle.ob_inflight.specs.Kinds.{Kind, Moment, Taker, moment, share_at}
 use Rattle.ob_inflight.specs.Leaving.{own_or_next}
 use Rattle.ob_inflight.specs.Parts.{EndsAt, EndsInClosing, EndsInFinish, EndsWhole, HasTurned, MayEnd, MayStep, MayTurn, StepsAt, TakesTurn, left_to}
@@ -158,8 +158,8 @@ module _ {F E : Type 0} (k : Kind F) (t : Taker E) (laws : Laws k) (words : ℕ 
     step_later : Later last.world.store now.world.store
     step_later = (step_lasts did.steps.access (k.progress did.before).region last.world now.world (k.progress did.after).failed did.steps.went).later
 
-    step_aloft : IsAloft k words (n + 1) turned.public share turned.ended (turned.current ++ step_more.more) start now
-    step_aloft =
+    step_in_flight : IsInFlight k words (n + 1) turned.public share turned.ended (turned.current ++ step_more.more) start now
+    step_in_flight =
         let f = did.before in
         let g = did.after in
         let steps = did.steps in
@@ -227,13 +227,13 @@ module _ {F E : Type 0} (k : Kind F) (t : Taker E) (laws : Laws k) (words : ℕ 
           public = turned.public;
           ended = turned.ended;
           current = turned.current ++ step_more.more;
-          aloft = step_aloft;
+          aloft = step_in_flight;
           fit = fit_next k laws share rows_old rows_new last now i f g did.at did.flyers same did.kept (λ going. did.fits) turned.fit;
           counts = turned.counts;
           within = omega (arith, long, turned.within);
           emitted = emitted_more t.grew t.closed turned.ended turned.current step_more.more out_start out_old out_new turned.emitted step_more.leads;
           over = λ all. absurd (omega (arith, all, long, picked.after, picked.within));
-          past = past_now k words turned.public share (n + 1) turned.ended (turned.current ++ step_more.more) start now step_aloft
+          past = past_now k words turned.public share (n + 1) turned.ended (turned.current ++ step_more.more) start now step_in_flight
               (λ m less. past_still k words turned.public share n turned.ended turned.ended start last now step_keeps step_later turned.past m (omega (arith, less)));
           went = went_on k words turned.public share n turned.ended turned.ended turned.current start last now turned.aloft step_keeps step_later (turned.aloft.turned.log ++ entry_of i (Some steps.access))
               (λ xs all. ap (λ (s : Flight). s.log) (turn_on k laws words n turned.public share turned.ended turned.current start last stand turned.aloft.turned i f did.at place (Some steps.access) next xs all)) turned.went;
@@ -337,8 +337,8 @@ module _ {F E : Type 0} (k : Kind F) (t : Taker E) (laws : Laws k) (words : ℕ 
     end_keeps whole = keeps_next k turned.ended (closed_so whole ∷ []) last (moment gs last.kept last.world) i f g at flyers (turned.aloft.stand.outcome i f at ∙ outcome_open turned.ended i (omega (arith, first)))
         (λ is. (ap (λ (q : Progress). q.served) whole.answered, ap (λ (q : Progress). q.failed) whole.answered ∙ is)) may
 
-    end_aloft : (whole : EndsWhole k t i own f g out_old out_new) → IsAloft k words (n + 1) turned.public share (turned.ended ++ closed_so whole ∷ []) [] start (moment gs last.kept last.world)
-    end_aloft whole =
+    end_in_flight : (whole : EndsWhole k t i own f g out_old out_new) → IsInFlight k words (n + 1) turned.public share (turned.ended ++ closed_so whole ∷ []) [] start (moment gs last.kept last.world)
+    end_in_flight whole =
         let stand = turned.aloft.stand in
         let finished = end_more whole in
         let now : Moment F = moment gs last.kept last.world in
@@ -365,7 +365,7 @@ module _ {F E : Type 0} (k : Kind F) (t : Taker E) (laws : Laws k) (words : ℕ 
           public = turned.public;
           ended = turned.ended ++ closed_so whole ∷ [];
           current = [];
-          aloft = end_aloft whole;
+          aloft = end_in_flight whole;
           fit = fit_next k laws share rows rows last now i f g at flyers (record { count = refl; sizes = λ j. refl }) (λ j less off. refl)
               (λ going. absurd (cc (going, ap (λ (q : Progress). q.outcome) whole.answered))) turned.fit;
           counts = omega (arith, turned.counts, one_more);
@@ -377,7 +377,7 @@ module _ {F E : Type 0} (k : Kind F) (t : Taker E) (laws : Laws k) (words : ℕ 
             now = starts out_new;
           };
           over = λ all. refl;
-          past = past_now k words turned.public share (n + 1) (turned.ended ++ closed_so whole ∷ []) [] start now (end_aloft whole)
+          past = past_now k words turned.public share (n + 1) (turned.ended ++ closed_so whole ∷ []) [] start now (end_in_flight whole)
               (λ m less. past_still k words turned.public share n turned.ended (turned.ended ++ closed_so whole ∷ []) start last now (end_keeps whole) (later_refl last.world.store) turned.past m (omega (arith, less)));
           went = went_on k words turned.public share n turned.ended (turned.ended ++ closed_so whole ∷ []) turned.current start last now turned.aloft (end_keeps whole) (later_refl last.world.store)
               (turned.aloft.turned.log ++ entry_of i None) log_end turned.went;
@@ -504,7 +504,7 @@ module _ {F E : Type 0} (k : Kind F) (t : Taker E) (laws : Laws k) (word share c
         (first_then words n start out_start w turned) did.before did.at (ap (λ (y : F). (k.progress y).over) (same_flyer did.before did.at) ∙ over)
         (share_at share i last.kept) refl did.after did.flyers did.needs did.may e did.ends
 
--- less is left to do behind an end
+-- less is left to do after an end
 pub ends_less : {F E T : Type 0} (k : Kind F) (t : Taker E) (count i : ℕ) (own : List (List ℕ)) (x : T) (last gs : List F) (out_old out_new : E) → count < length last
     → EndsAt k t i own (Ok x) last gs out_old out_new → left_to k (count + 1) gs < left_to k count last
 ends_less {F} k t count i own x last gs out_old out_new some did =
@@ -521,8 +521,8 @@ steps_less {F} k t share count i x rows last now out_old out_new did =
     omega (arith, sum, is, long, did.steps.books.most)
 
 -- before the first turn
-aloft_first : {F : Type 0} (k : Kind F) (words : ℕ → ℕ) (share : ℕ) (rows : List (List ℕ)) (start : Moment F) → (boarded : AreBoarded k share rows start) → IsAloft k words 0 boarded.public share [] [] start start
-aloft_first {F} k words share rows start boarded = record {
+in_flight_first : {F : Type 0} (k : Kind F) (words : ℕ → ℕ) (share : ℕ) (rows : List (List ℕ)) (start : Moment F) → (boarded : AreBoarded k share rows start) → IsInFlight k words 0 boarded.public share [] [] start start
+in_flight_first {F} k words share rows start boarded = record {
   stand = boarded.stand;
   turned = turned_none k words boarded.public start boarded.unasked boarded.unmade (λ i f at. boarded.stand.outcome i f at) (total_none (λ (f : F). (k.progress f).asked + one_if (is_some (k.progress f).outcome)) start.flyers
       (λ i f at. let o : one_if (is_some (k.progress f).outcome) ≡ 0 = ap (λ (o : Option Outcome). one_if (is_some o)) (boarded.stand.outcome i f at) in omega (arith, o, boarded.unasked i f at)));
@@ -547,13 +547,13 @@ turned_first {F} {E} k t starts words share rows start out boarded = record {
   public = boarded.public;
   ended = [];
   current = [];
-  aloft = aloft_first k words share rows start boarded;
+  aloft = in_flight_first k words share rows start boarded;
   fit = boarded.fit;
   counts = refl;
   within = omega arith;
   emitted = record { between = out; took = refl; now = starts out };
   over = λ all. refl;
-  past = past_now k words boarded.public share 0 [] [] start start (aloft_first k words share rows start boarded) (λ m less. absurd (omega (arith, less)));
+  past = past_now k words boarded.public share 0 [] [] start start (in_flight_first k words share rows start boarded) (λ m less. absurd (omega (arith, less)));
   went = λ m less. absurd (omega (arith, less));
   begun = λ none lie is. absurd (cc (none, is));
 }
@@ -590,7 +590,7 @@ has_flown {F} {E} k t words left n share count rows start now out_old out_new tu
     }
   where
     -- nothing more is emitted for any of them
-    ended_all : (current : List Event) → IsAloft k words n turned.public share turned.ended current start now → length turned.ended ≡ length now.flyers → IsAloft k words n turned.public share turned.ended [] start now
+    ended_all : (current : List Event) → IsInFlight k words n turned.public share turned.ended current start now → length turned.ended ≡ length now.flyers → IsInFlight k words n turned.public share turned.ended [] start now
     ended_all current aloft all = record {
       stand = record {
         ready = aloft.stand.ready;

@@ -9,7 +9,7 @@ use Rattle.ob_script.specs.Flights.{Flight, Flying, Gate, accesses_in, acted, bo
 use Rattle.ob_script.specs.Trace.{Served}
 use Rattle.ob_vault.specs.Rows.{SameSizes}
 use Rattle.ob_vault.specs.State.{World}
-use Rattle.ob_inflight.specs.Aloft.{AllMay, AreFlying, Turned, acts_of, flight_in, flying_in, setting_off}
+use Rattle.ob_inflight.specs.AfterTurns.{AllMay, AreFlying, Turned, acts_of, flight_in, flying_in, setting_off}
 use Rattle.ob_inflight.specs.Closing.{Closed, outcome_at}
 use Rattle.ob_inflight.specs.Kinds.{Kind, Moment}
 use Rattle.ob_inflight.specs.Leaving.{Leaves}

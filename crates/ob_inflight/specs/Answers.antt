@@ -32,7 +32,7 @@ EndsBy grew cut (Tampered region place) = grew
 EndsBy grew cut Sink = cut
 EndsBy grew cut NoMemory = cut
 
--- behind the events before more were emitted, none where nothing is to be
+-- after the events before more were emitted, none where nothing is to be
 pub record More {E : Type 0} (grew : E → E → List Event → Type 0) (printing : Bool)
     (Holds : List Event → World → Type 0) (events : List Event) (w : World) (out_old out_new : E)
     : Type 0 where
@@ -50,7 +50,7 @@ pub record Part {E : Type 0} (grew to : E → E → List Event → Type 0) (prin
   pub quiet : printing ≡ false → (part ≡ []) × (out_new ≡ out_old)
   pub halts : Halts events part
 
--- whatever stood before a step stands behind it, with what was emitted in it
+-- whatever stood before a step stands after it, with what was emitted in it
 pub record Tells {E T : Type 0} (grew cut : E → E → List Event → Type 0) (printing : Bool)
     (Holds_old Holds_new : List Event → World → Type 0)
     (Halts : (events part : List Event) → OpErr → (old new : World) → Type 0)
@@ -66,7 +66,7 @@ abbrev pub error_of : EmitErr → OpErr
 error_of EmitErrs.Failed = Sink
 error_of EmitErrs.NoMemory = NoMemory
 
--- and behind its end
+-- and after its end
 pub record Finishes {E T : Type 0} (grew cut : E → E → List Event → Type 0)
     (Holds_old Holds_new : List Event → World → Type 0)
     (Halts : (events part : List Event) → OpErr → (old new : World) → Type 0)

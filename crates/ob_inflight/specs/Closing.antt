@@ -1,4 +1,4 @@
--- Answers of several statements, one behind the other.
+-- Answers of several statements, one after the other.
 use Rattle.std.specs.Prelude.{◌≡◌, ◌+◌, ◌-◌, ◌^◌, ◌≤◌, min, ℕ, zero, suc, List, [], ◌∷◌, Option, option_map, slice_get}
 use Rattle.ob_base.specs.Events.{Event}
 use Rattle.ob_verdict.specs.declared.outcome.Outcome.{Outcome}
@@ -16,7 +16,7 @@ pub record Closes {E : Type 0} (grew : E → E → List Event → Type 0)
   pub took : grew out_old between one.events
   pub closes : closed between out_new place one.outcome
 
--- those of each, one behind the other
+-- those of each, one after the other
 abbrev pub ClosesAll : {E : Type 0} → (grew : E → E → List Event → Type 0)
     → (closed : E → E → ℕ → Outcome → Type 0)
     → (place : ℕ) → List Closed → (out_old out_new : E) → Type 0
@@ -33,7 +33,7 @@ pub record Emitted {E : Type 0} (grew : E → E → List Event → Type 0)
   pub took : ClosesAll grew closed 0 ended out_old between
   pub now : grew between out_new current
 
--- the answer at a place, if it has ended, and its events, none behind the first that has not
+-- the answer at a place, if it has ended, and its events, none after the first that has not
 abbrev pub outcome_at : List Closed → (place : ℕ) → Option Outcome
 outcome_at ended place = option_map (λ (one : Closed). one.outcome) (slice_get ended place)
 

@@ -3,7 +3,7 @@ use Rattle.std.specs.Prelude.{◌≡◌, ◌⊎◌, ℕ, Option, Some}
 use Rattle.ob_vault.specs.Calls.{Lasts}
 use Rattle.ob_vault.specs.State.{World}
 
--- what was done since may have changed all regions but these
+-- what was done since may have changed all regions except these
 abbrev pub Leaves : (these : ℕ → Type 0) → (old new : World) → Type 0
 Leaves these = Lasts (λ q. these q → ⊥)
 

@@ -4,6 +4,6 @@ pub mod Answers
 pub mod Closing
 pub mod Picking
 pub mod Kinds
-pub mod Aloft
-pub mod Flown
+pub mod AfterTurns
+pub mod FlightOutcome
 pub mod Parts

@@ -4,10 +4,10 @@ use Rattle.ob_base.specs.Events.{Event}
 use Rattle.ob_base.specs.declared.config.Public.{Public}
 use Rattle.ob_base.specs.declared.emit.EmitErr.{EmitErr}
 use Rattle.ob_flat.specs.declared.fault.OpErr.{OpErr}
-use Rattle.ob_inflight.specs.Aloft.{AllFit, AreFlying, HaveGoneOn, HaveStood, IsAloft, IsBegun, booked_by, most_of}
+use Rattle.ob_inflight.specs.AfterTurns.{AllFit, AreFlying, HaveGoneOn, HaveStood, IsInFlight, IsBegun, booked_by, most_of}
 use Rattle.ob_inflight.specs.Answers.{IsHeld, IsHeldSomewhere, More, Part, Tells, error_of}
 use Rattle.ob_inflight.specs.Closing.{Closed, Emitted}
-use Rattle.ob_inflight.specs.Flown.{StopsFlight}
+use Rattle.ob_inflight.specs.FlightOutcome.{StopsFlight}
 use Rattle.ob_inflight.specs.Kinds.{Kind, Moment, Taker, share_at}
 use Rattle.ob_inflight.specs.Progress.{Steps, StopsStep}
 use Rattle.ob_script.specs.Trace.{Served}
@@ -68,7 +68,7 @@ pub record MayEnd {F : Type 0} (k : Kind F) (share place : ℕ) (flyers : List F
   pub going : (k.progress flyer).outcome ≡ None
   pub held : IsHeldSomewhere (k.Holds flyer (share_at share place kept))
 
--- it was answered so, behind what was left of its answer
+-- it was answered so, after what was left of its answer
 pub record EndsWhole {F E : Type 0} (k : Kind F) (t : Taker E) (place : ℕ) (own : List (List ℕ))
     (before after : F)
     (out_old out_new : E) : Type 0 where
@@ -134,7 +134,7 @@ pub record HasTurned {F E : Type 0} (k : Kind F) (t : Taker E) (words : ℕ → 
   pub public : Public
   pub ended : List Closed
   pub current : List Event
-  pub aloft : IsAloft k words n public share ended current start now
+  pub aloft : IsInFlight k words n public share ended current start now
   pub fit : AllFit k share rows now
   pub counts : count ≡ length ended
   pub within : length ended ≤ length now.flyers

@@ -21,7 +21,7 @@ use Rattle.ob_inflight.specs.Leaving.{own_or_next}
 
 -- how far a statement is
 pub record Progress : Type 0 where
-  -- the statement, the table that it reads, why it is refused before any access, and what its flight goes by, but for the
+  -- the statement, the table that it reads, why it is refused before any access, and what its flight goes by, except for the
   -- next region: these stay
   pub stmt : Stmt
   pub flat : Flat
@@ -98,7 +98,7 @@ MakesNext (Write q place) next before = ⊤
 MakesNext (Discard q) next before = ⊤
 MakesNext (Open q blocks len) next before = ⊤
 
--- the region that it made, behind this access
+-- the region that it made, after this access
 pub record KeepsRegion (access : Access) (next : ℕ) (before after : Option ℕ) : Type 0 where
   pub now : after ≡ region_after (Some access) before
   pub makes : MakesNext access next before

@@ -1,9 +1,9 @@
 //! The turns of statements in flight.
 ghost use Rattle.std.specs.Prelude.{◌≡◌, ◌≤◌, ◌<◌, ◌+◌, ◌*◌, ◌^◌, ℕ, true, List, drop, length, map, slice_get, slice_index_or, IfOk, IfErr, OnOk, Some};
 ghost use Rattle.ob_flat.specs.Passes.{SinkCause};
-ghost use Rattle.ob_inflight.specs.Aloft.{AreBoarded};
+ghost use Rattle.ob_inflight.specs.AfterTurns.{AreBoarded};
 ghost use Rattle.ob_inflight.specs.Answers.{error_of};
-ghost use Rattle.ob_inflight.specs.Flown.{HasFlown, StopsFlight};
+ghost use Rattle.ob_inflight.specs.FlightOutcome.{HasFlown, StopsFlight};
 ghost use Rattle.ob_inflight.specs.Kinds.{kind_of, moment, share_at, taker_of};
 ghost use Rattle.ob_inflight.specs.Parts.{EndsAt, MayEnd, MayStep, MayTurn, StepsAt, TakesTurn, left_to};
 ghost use Rattle.ob_inflight.specs.Picking.{going};

@@ -2,7 +2,7 @@
 //!
 //! What is promised: whatever each of them turns out to ask, and whatever the store answers, the accesses are those that
 //! the words merge of theirs; what each is told and emits is as if the others weren't there; and their answers come in
-//! order, one behind the other.
+//! order, one after the other.
 //!
 //! `Flyer` is a statement that goes on, `fly` the loop of their turns; `Turns` gives the words, and `FlightOut` takes the
 //! answers.

@@ -6,7 +6,7 @@ ghost use Rattle.ob_inflight.specs.Answers.{HasFewRows};
 use ob_base::{Emit, EmitErr};
 use ob_verdict::Outcome;
 
-/// Takes the rows of several statements' answers, one answer behind the other, and how each statement ended.
+/// Takes the rows of several statements' answers, one answer after the other, and how each statement ended.
 pub trait FlightOut: Emit {
     ghost use Rattle.std.specs.Prelude.{ℕ};
     ghost use Rattle.ob_verdict.specs.declared.outcome.Outcome.{Outcome as AnOutcome};

@@ -29,7 +29,7 @@ bytes-join (c ∷ l) r [] b h = absurd h
 bytes-join (c ∷ l) r (x ∷ a) b h =
     ap (λ (t : List ℕ). cell_bytes c.kind x ++ t) (bytes-join l r a b h.1) ∙ sym (append_assoc (cell_bytes c.kind x) (cells_bytes l a) (cells_bytes r b))
 
--- a left row, and the cells of a right row behind it
+-- a left row, and the cells of a right row after it
 begins-join : (l r : Columns) (a b : Row) (left right behind : List ℕ) → Begins l (Some a) left → Begins r (Some b) right
     → Begins (l ++ r) (Some (a ++ b)) (take (width l) left ++ (drop 1 (take (width r) right) ++ behind))
 begins-join l r a b left right behind first second =

@@ -33,7 +33,7 @@ within a r = omega arith
 pub part_within : (a r : ℕ) → a ≤ a + r
 part_within a r = omega arith
 
--- before the first block, in a turn, and behind the last
+-- before the first block, in a turn, and after the last
 pub none_below : (j r : ℕ) → j < 0 * r → ⊥
 none_below j r less = omega arith
 

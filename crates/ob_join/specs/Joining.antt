@@ -13,7 +13,7 @@ use Rattle.ob_flat.specs.Slots.{Spelt}
 use Rattle.ob_flat.specs.Flats.{whole_blocks}
 use Rattle.ob_join.specs.declared.sides.Sides.{Sides}
 
--- the right slot of index x, joined with the first left row that agrees with it; those behind the
+-- the right slot of index x, joined with the first left row that agrees with it; those after the
 -- capacity are empty
 abbrev pub joined_below : (i j : ℕ) → List Row → ℕ → ℕ → Option Row → Option Row
 joined_below i j left capacity x slot =

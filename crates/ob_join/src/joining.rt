@@ -18,7 +18,7 @@ use ob_order::Order;
 use ob_room::ClearRow;
 use ob_row::{Cell, Malformed, cell_in, kind_at, offset, put_cell, read, width};
 
-// Writes these bytes over the first ones, and the others behind them.
+// Writes these bytes over the first ones, and the others after them.
 fn join_bytes(left: &[u8], right: &[u8], to: &mut [u8])
     requires { length left.now + length right.now ≤ length to.old }
     ensures { to.new ≡ left.now ++ (right.now ++ drop (length left.now + length right.now) to.old) }
@@ -28,7 +28,7 @@ fn join_bytes(left: &[u8], right: &[u8], to: &mut [u8])
     rest[..right.len()].copy_from_slice(right);
 }
 
-// Writes the left row, and the cells of the right one behind it.
+// Writes the left row, and the cells of the right one after it.
 fn join_pair(left: &Schema, a: &ClearRow, right: &Schema, b: &ClearRow, to: &mut ClearRow)
     requires left { width left.now ≤ length a.now }
     requires right { width right.now ≤ length b.now }

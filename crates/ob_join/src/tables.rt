@@ -13,7 +13,7 @@ use crate::sides::Sides;
 use ob_base::Schema;
 use ob_flat::{Flat, OpErr, make_table};
 use ob_order::Order;
-use ob_room::{ClearRow, Room};
+use ob_room::{ClearRow, RowBuffer};
 use ob_store::BlockStore;
 use ob_vault::{Order as Turns, Revisions, Vault};
 
@@ -83,7 +83,7 @@ fn join_tables<S: BlockStore, R: Revisions>(
 /// that may be open beside two. The region has a block for each chunk and each right block: for chunk
 /// `q`, its left blocks are read, and their rows kept; then each right block `v` is read, and place
 /// `q * rights + v` is written, `rights` being the blocks of the right table. A slot has the right row
-/// of its own slot behind the first row of the chunk that agrees with it; it is a dummy where there is
+/// of its own slot after the first row of the chunk that agrees with it; it is a dummy where there is
 /// none, and where the right slot lies behind the capacity. So each pair is found where no two left rows
 /// of a chunk have equal cells, as those of a primary key.
 ///
@@ -96,7 +96,7 @@ fn join_tables<S: BlockStore, R: Revisions>(
 pub fn join<S: BlockStore, R: Revisions>(
     store: &mut S,
     vault: &mut Vault<R>,
-    room: &mut Room,
+    room: &mut RowBuffer,
     order: &mut Order,
     left: &Flat,
     right: &Flat,

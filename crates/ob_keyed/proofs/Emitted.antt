@@ -25,7 +25,7 @@ on_err : {T E P Q : Type 0} (r : Result T E) → (P → Q) → OnErr r P → OnE
 on_err (Ok x) f h = tt
 on_err (Err e) f h = f h
 
--- what was emitted behind something else
+-- what was emitted after something else
 leads_join : {E : Type 0} (grew to : E → E → List Event → Type 0) (a b c : E) (x y : List Event) → Leads grew grew a b x → Leads grew to b c y → Leads grew to a c (x ++ y)
 leads_join grew to a b c x y first second = λ s events is. subst (to s c) (append_assoc events x y) (second s (events ++ x) (first s events is))
 
@@ -44,7 +44,7 @@ module _ {E T : Type 0} (grew cut : E → E → List Event → Type 0) (faults :
       → Gives {T = T} grew cut faults (events ++ more) (Err e) a b
   gives_cut a b events more e leads cause = record { ok = tt; err = (events, leads, (more, refl)); cause = cause }
 
-  -- calls behind one
+  -- calls after one
   pub gives_under : (a b c : E) (front more : List Event) (r : Result T EmitErr) → Leads grew grew a b front → faults b ≡ faults a → Gives grew cut faults more r b c
       → Gives grew cut faults (front ++ more) r a c
   gives_under a b c front more r lead same gives = record {

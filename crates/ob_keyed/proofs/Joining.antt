@@ -19,7 +19,7 @@ use Rattle.ob_oram.specs.declared.op.Got.{Got}
 use Rattle.ob_oram.specs.declared.fault.OramErr.{OramErr}
 use Rattle.ob_oram.specs.declared.fault.OramErr.TheVariants.{Failed, Tampered, StashFull}
 use Rattle.ob_oram.specs.Accessing.{Accesses, leaf_read}
-use Rattle.ob_oram.specs.Indexes.{Lies, key_of, leaves_of}
+use Rattle.ob_oram.specs.Indexes.{IsStoredAs, key_of, leaves_of}
 use Rattle.ob_oram.specs.Ops.{FitsOp, key_of_op, op_in}
 use Rattle.ob_oram.specs.Short.{AsksReads}
 use Rattle.ob_mean.specs.Keyed.{Ask, Find, Put, Set, Take, op_of}
@@ -93,7 +93,7 @@ leaf_told t index op ask draw is asks fits leaves = λ j.
 
 module _ (t : Stored Held) (index left : Index) (op : Op) (ask : Ask) (draw : ℕ) (old new : World)
     (is : IsIndexOf t.heading index) (asks : Asks ask op) (honest : IsHonest old new)
-    (lies : Lies index (index_of t.heading t.held) old) where
+    (lies : IsStoredAs index (index_of t.heading t.held) old) where
   same : access (key_of index) index.height (index_of t.heading t.held) (op_in index.capacity op) draw ≡ went draw t ask
   same = access_same t.heading index is (index_of t.heading t.held) ask op draw asks
 

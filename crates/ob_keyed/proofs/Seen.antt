@@ -119,7 +119,7 @@ module _ (p : Public) (m : ℕ) (stmt : Stmt) (index : Index) (on : IsKeyed p m 
         (λ j. access_part (sym on.tree j) (sym on.stash j) (sym on.slots j) (sym (height_is on.table.heading index on.is) j) leaf)
         ∙ sym (scripts_join index leaf below)
 
-    -- behind the reads of its stash
+    -- after the reads of its stash
     abbrev behind : List Access
     behind =
         each (4 * (height_of on.table.heading.capacity + 1)) (path_read on.table.held (height_of on.table.heading.capacity) leaf)

@@ -10,7 +10,7 @@ use Rattle.ob_oram.specs.declared.fault.OramErr.TheVariants.{Failed, Tampered, S
 use Rattle.ob_oram.specs.declared.index.Index.{Index}
 use Rattle.ob_oram.specs.declared.op.Got.{Got}
 use Rattle.ob_oram.specs.Accessing.{Accesses, Stops, leaf_read, remap_of}
-use Rattle.ob_oram.specs.Indexes.{IsShaped, Lies, leaves_of}
+use Rattle.ob_oram.specs.Indexes.{IsShaped, IsStoredAs, leaves_of}
 use Rattle.ob_oram.specs.Scripts.{access_script}
 use Rattle.ob_oram.specs.Short.{AccessShort, AsksReads}
 use Rattle.ob_oram.proofs.AccessRuns.{leaf_read_below}
@@ -74,12 +74,12 @@ module _ (stmt : Stmt) (index left : Index) (draw : ℕ) (keyed : Keyed) (old ne
     leaf_is : t.held.leaves ≡ leaves_of index → keyed.leaf ≡ leaf_went draw t ask
     leaf_is leaves = by.gone.leaf ∙ leaf_told t index by.op ask draw is asks_op by.fits leaves
 
-    told_by : IsHonest old new → Lies index (index_of t.heading t.held) old → (r : Result Got OramErr) → Accesses index left by.op draw r old new
+    told_by : IsHonest old new → IsStoredAs index (index_of t.heading t.held) old → (r : Result Got OramErr) → Accesses index left by.op draw r old new
         → MatchResult r (λ got. AnswersAsk t left ask draw got new) (λ e. StopsAsk t left ask draw e new)
     told_by honest lies (Ok got) accesses = told_ok t index left by.op ask draw old new is asks_op honest lies got accesses
     told_by honest lies (Err e) accesses = told_err t index left by.op ask draw old new is asks_op honest lies e accesses
 
-    room_by : IsHonest old new → Lies index (index_of t.heading t.held) old → went draw t ask ≡ None → AsksReads index old new
+    room_by : IsHonest old new → IsStoredAs index (index_of t.heading t.held) old → went draw t ask ≡ None → AsksReads index old new
     room_by honest lies none = told_room t index left by.op ask draw old new is asks_op honest lies keyed.result by.gone.accesses none
 
   shows_leaf : ShowsLeaf stmt index draw keyed.leaf

@@ -18,7 +18,7 @@ use Rattle.ob_oram.specs.declared.fault.OramErr.{OramErr}
 use Rattle.ob_oram.specs.declared.fault.OramErr.TheVariants.{Failed, Tampered, StashFull}
 use Rattle.ob_oram.specs.declared.index.Index.{Index}
 use Rattle.ob_oram.specs.declared.op.Got.{Got}
-use Rattle.ob_oram.specs.Indexes.{Lies}
+use Rattle.ob_oram.specs.Indexes.{IsStoredAs}
 use Rattle.ob_oram.specs.Short.{AsksReads}
 use Rattle.ob_vault.specs.Words.{IsHonest}
 use Rattle.ob_path.specs.Access as Tree
@@ -92,7 +92,7 @@ finds_access p m ts stmt t index on same there = find p m ts stmt t index on sam
 
 -- ---- its meaning
 module _ (d : Draws) (p : Public) (m : ℕ) (ts : Tables) (stmt : Stmt) (t : Stored Held) (index left : Index) (keyed : Keyed) (old new : World) (on : IsKeyed p m stmt index) (at : AccessAt p m ts stmt t index)
-    (place : AreInPlace p.stash ts) (lies : Lies index (index_of t.heading t.held) old) (serves : ServesKeyed stmt index left (next_draw d) keyed old new) where
+    (place : AreInPlace p.stash ts) (lies : IsStoredAs index (index_of t.heading t.held) old) (serves : ServesKeyed stmt index left (next_draw d) keyed old new) where
   abbrev a : Accessed
   a = record { table = t; ask = at.ask }
 
@@ -124,7 +124,7 @@ module _ (d : Draws) (p : Public) (m : ℕ) (ts : Tables) (stmt : Stmt) (t : Sto
         after = held_as w.state;
         settled = law.settled;
         fits = λ chosen. subst (λ (g : Tree.Got Row). All (FitsColumns t.heading.schema) (found g)) (sym answers.answer) (fits_by stmt w at.asked answers.is chosen);
-        lies = subst (λ (s : State Row). Lies left s new) (sym (index_again t.heading w.state size)) answers.lies;
+        lies = subst (λ (s : State Row). IsStoredAs left s new) (sym (index_again t.heading w.state size)) answers.lies;
       }
 
   stops : (e : OramErr) → StopsAsk t left at.ask (next_draw d) e new → StopsKeyed d p m ts stmt e

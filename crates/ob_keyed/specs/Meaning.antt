@@ -11,7 +11,7 @@ use Rattle.ob_oram.specs.declared.index.Index.{Index}
 use Rattle.ob_oram.specs.declared.op.Got.{Got}
 use Rattle.ob_oram.specs.declared.op.Op.{Op}
 use Rattle.ob_oram.specs.declared.op.Op.TheVariants as Ops
-use Rattle.ob_oram.specs.Indexes.{IsShaped, Lies, LiesAs}
+use Rattle.ob_oram.specs.Indexes.{IsShaped, IsStoredAs, LiesAs}
 use Rattle.ob_oram.specs.Ops.{got_in}
 use Rattle.ob_row.specs.Keys.{key_in}
 use Rattle.ob_row.specs.Rows.{Row}
@@ -45,7 +45,7 @@ pub record AnswersAsk (t : Stored Held) (left : Index) (ask : Ask) (draw : ℕ) 
   pub meant : Went Row
   pub is : went draw t ask ≡ Some meant
   pub answer : got_in got ≡ meant.got
-  pub lies : Lies left meant.state new
+  pub lies : IsStoredAs left meant.state new
 
 -- the stash is full in the meaning, and the index lies as before
 pub record IsFullAsk (t : Stored Held) (left : Index) (ask : Ask) (draw : ℕ)

@@ -12,7 +12,7 @@ use Rattle.ob_oram.specs.declared.fault.OramErr.{OramErr}
 use Rattle.ob_oram.specs.declared.fault.OramErr.TheVariants.{Failed, Tampered, StashFull}
 use Rattle.ob_oram.specs.declared.index.Index.{Index}
 use Rattle.ob_oram.specs.declared.op.Got.{Got}
-use Rattle.ob_oram.specs.Indexes.{Lies}
+use Rattle.ob_oram.specs.Indexes.{IsStoredAs}
 use Rattle.ob_oram.specs.Ops.{got_in}
 use Rattle.ob_oram.specs.Scripts.{access_script}
 use Rattle.ob_oram.specs.Short.{AsksReads}
@@ -70,7 +70,7 @@ pub record ToldKeyed (d : Draws) (p : Public) (m : ℕ) (ts : Tables) (stmt : St
   pub outcome : outcome_of stmt (verdict p m ts stmt) ≡ got_outcome stmt (got_in got)
   pub after : Held
   pub settled : settle d p m ts stmt ≡ changed_at t.heading.name (λ held. after) ts
-  pub lies : Lies left (index_of t.heading after) new
+  pub lies : IsStoredAs left (index_of t.heading after) new
   -- a row that a SELECT found is one of the table's columns
   pub fits : selects_rows stmt ≡ true → All (FitsColumns t.heading.schema) (found (got_in got))
 
@@ -94,4 +94,4 @@ pub record MeansKeyed (d : Draws) (p : Public) (m : ℕ) (ts : Tables) (stmt : S
 abbrev pub KeyedMeans : Type 0
 KeyedMeans = (d : Draws) (p : Public) (m : ℕ) (ts : Tables) (stmt : Stmt) (t : Stored Held) (index left : Index) (keyed : Keyed) (old new : World) (on : IsKeyed p m stmt index)
     → headings ts ≡ headings_of p.tables → AreInPlace p.stash ts → stored_at on.name ts ≡ Some t
-    → Lies index (index_of t.heading t.held) old → ServesKeyed stmt index left (next_draw d) keyed old new → MeansKeyed d p m ts stmt t index left keyed old new
+    → IsStoredAs index (index_of t.heading t.held) old → ServesKeyed stmt index left (next_draw d) keyed old new → MeansKeyed d p m ts stmt t index left keyed old new

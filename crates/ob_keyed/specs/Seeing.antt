@@ -24,7 +24,7 @@ use Rattle.ob_keyed.specs.Serving.{Asked}
 abbrev pub seen_whole : (leaf : ℕ) → Seen
 seen_whole leaf = record (ended Whole) { leaf = Some leaf }
 
--- or once more was asked than its stash of so many slots, where it was cut off behind n accesses
+-- or once more was asked than its stash of so many slots, where it was cut off after n accesses
 abbrev pub seen_cut : (slots leaf n : ℕ) → Seen
 seen_cut slots leaf n = record (ended (Cut n)) { leaf = held_if (nat_lt slots n) (Some leaf) }
 
@@ -60,7 +60,7 @@ KeyedRan = (p : Public) (m : ℕ) (stmt : Stmt) (index left : Index) (leaf : ℕ
     (seen_by p.stash leaf result (length new.store.asked - length old.store.asked))
     old.store new.store
 
--- also where it is cut off behind its access, by the emitter
+-- also where it is cut off after its access, by the emitter
 abbrev pub KeyedCut : Type 0
 KeyedCut = (p : Public) (m : ℕ) (stmt : Stmt) (index left : Index) (leaf : ℕ)
     (got : Got) (old new : World) → IsKeyed p m stmt index

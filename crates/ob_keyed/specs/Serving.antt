@@ -11,7 +11,7 @@ use Rattle.ob_oram.specs.declared.index.Index.{Index}
 use Rattle.ob_oram.specs.declared.op.Got.{Got}
 use Rattle.ob_oram.specs.declared.op.Op.{Op}
 use Rattle.ob_oram.specs.Accessing.{Accesses, ReadsTooMany, leaf_read}
-use Rattle.ob_oram.specs.Indexes.{IsEnded, IsIndex, Lies, SealsIndex, leaves_of}
+use Rattle.ob_oram.specs.Indexes.{IsEnded, IsIndex, IsStoredAs, SealsIndex, leaves_of}
 use Rattle.ob_oram.specs.Ops.{FitsOp}
 use Rattle.ob_oram.specs.Scripts.{access_script}
 use Rattle.ob_oram.specs.Short.{AccessShort, AsksReads}
@@ -49,10 +49,10 @@ pub record Asked (index left : Index) (leaf : ℕ) (result : Result Got OramErr)
   pub seals : SealsIndex index old new
   pub same : left ≡ record index { leaves = left.leaves; buffer = left.buffer }
   pub stands : OnOk result (IsIndex left new)
-  -- behind a stop it isn't accessed again
+  -- after a stop it isn't accessed again
   pub ended : OnErr result (IsEnded left)
 
--- the leaf of some key was read, or that of the draw where the index has no such key; behind an answer the key has that of
+-- the leaf of some key was read, or that of the draw where the index has no such key; after an answer the key has that of
 -- the draw
 pub record ReadsLeaf (index left : Index) (draw leaf : ℕ) (result : Result Got OramErr) : Type 0 where
   pub key : ℕ
@@ -60,7 +60,7 @@ pub record ReadsLeaf (index left : Index) (draw leaf : ℕ) (result : Result Got
   pub moved : OnOk result
       (leaves_of left ≡ slice_set (leaves_of index) key (leaf_of_draw index.height draw))
 
--- more rows were read on the path of this leaf and in the stash than fit behind what the statement asks
+-- more rows were read on the path of this leaf and in the stash than fit after what the statement asks
 pub record Overfills (stmt : Stmt) (index : Index) (draw leaf : ℕ) (old new : World) : Type 0 where
   pub ask : Ask
   pub op : Op
@@ -81,14 +81,14 @@ abbrev pub TellsAccess : Stmt → (index left : Index) → ℕ → Result Got Or
     → Type 0
 TellsAccess stmt index left draw result old new = IsHonest old new → (t : Stored Held) (ask : Ask)
     → IsIndexOf t.heading index → ask_of t.heading stmt ≡ Some ask
-    → Lies index (index_of t.heading t.held) old → MatchResult result
+    → IsStoredAs index (index_of t.heading t.held) old → MatchResult result
     (λ got. AnswersAsk t left ask draw got new) (λ e. StopsAsk t left ask draw e new)
 
 -- where the meaning's stash is full no write is asked
 abbrev pub AsksRoom : Stmt → Index → ℕ → (old new : World) → Type 0
 AsksRoom stmt index draw old new = IsHonest old new → (t : Stored Held) (ask : Ask)
     → IsIndexOf t.heading index → ask_of t.heading stmt ≡ Some ask
-    → Lies index (index_of t.heading t.held) old → went draw t ask ≡ None
+    → IsStoredAs index (index_of t.heading t.held) old → went draw t ask ≡ None
     → AsksReads index old new
 
 pub record ServesKeyed (stmt : Stmt) (index left : Index) (draw : ℕ) (keyed : Keyed)

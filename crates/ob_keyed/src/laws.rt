@@ -9,7 +9,7 @@ ghost use Rattle.ob_oram.specs.declared.index.Index.{Index};
 ghost use Rattle.ob_oram.specs.declared.op.Got.{Got};
 ghost use Rattle.ob_oram.specs.declared.op.Op.{Op};
 ghost use Rattle.ob_oram.specs.Accessing.{Accesses};
-ghost use Rattle.ob_oram.specs.Indexes.{IsShaped, Lies};
+ghost use Rattle.ob_oram.specs.Indexes.{IsShaped, IsStoredAs};
 ghost use Rattle.ob_sql.specs.declared.stmt.Stmt.{Stmt};
 ghost use Rattle.ob_vault.specs.State.{World};
 ghost use Rattle.ob_vault.specs.Words.{IsHonest};
@@ -27,11 +27,11 @@ pub fn access_told()
     ensures ok { (t : Stored Held) (index left : Index) (op : Op) (ask : Ask) (draw : ℕ)
         (got : Got) (old new : World) → IsIndexOf t.heading index → Asks ask op
         → Accesses index left op draw (Ok got) old new → IsHonest old new
-        → Lies index (index_of t.heading t.held) old → AnswersAsk t left ask draw got new }
+        → IsStoredAs index (index_of t.heading t.held) old → AnswersAsk t left ask draw got new }
     ensures err { (t : Stored Held) (index left : Index) (op : Op) (ask : Ask) (draw : ℕ)
         (e : OramErr) (old new : World) → IsIndexOf t.heading index → Asks ask op
         → Accesses index left op draw (Err e) old new → IsHonest old new
-        → Lies index (index_of t.heading t.held) old → StopsAsk t left ask draw e new }
+        → IsStoredAs index (index_of t.heading t.held) old → StopsAsk t left ask draw e new }
 {}
 
 /// What a statement on an index asked, showed and meant follows from its access.

@@ -17,7 +17,7 @@ pub fn seen_whole(leaf: u32) -> Seen
     }
 }
 
-/// Of one that was cut off behind so many accesses, of an index with a stash of so many slots.
+/// Of one that was cut off after so many accesses, of an index with a stash of so many slots.
 pub fn seen_cut(slots: u32, leaf: u32, accesses: u64) -> Seen
     ensures { result ≡ Seeing.seen_cut slots leaf accesses }
 {

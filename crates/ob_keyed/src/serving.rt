@@ -17,17 +17,17 @@ use crate::keyed::Keyed;
 use ob_base::{Items, Name, NoMemory};
 use ob_mean::new_row;
 use ob_oram::{Index, Op};
-use ob_room::Room;
+use ob_room::RowBuffer;
 use ob_sql::{Cond, Literal, SelectRows, Set, Stmt};
 use ob_store::BlockStore;
 use ob_vault::{Revisions, Vault};
 use std::alloc::Global;
 
 // An access, and the leaf that it shows.
-fn go<S: BlockStore, R: Revisions>(
+fn access<S: BlockStore, R: Revisions>(
     store: &mut S,
     vault: &mut Vault<R>,
-    room: &mut Room,
+    room: &mut RowBuffer,
     index: &mut Index,
     op: &Op<'_>,
     draw: u64,
@@ -50,11 +50,11 @@ fn go<S: BlockStore, R: Revisions>(
 }
 
 // A row is put in.
-fn put<S: BlockStore, R: Revisions>(
+fn insert_row<S: BlockStore, R: Revisions>(
     alloc: Global,
     store: &mut S,
     vault: &mut Vault<R>,
-    room: &mut Room,
+    room: &mut RowBuffer,
     index: &mut Index,
     columns: &Option<Items<Name>>,
     values: &[Literal],
@@ -79,7 +79,7 @@ fn put<S: BlockStore, R: Revisions>(
         return Err(NoMemory);
     };
     let key = key_of(&index.schema, cells.as_slice(), index.key);
-    Ok(go(
+    Ok(access(
         store,
         vault,
         room,
@@ -90,11 +90,11 @@ fn put<S: BlockStore, R: Revisions>(
 }
 
 // Cells of the row of a key are set.
-fn change<S: BlockStore, R: Revisions>(
+fn update_row<S: BlockStore, R: Revisions>(
     alloc: Global,
     store: &mut S,
     vault: &mut Vault<R>,
-    room: &mut Room,
+    room: &mut RowBuffer,
     index: &mut Index,
     sets: &[Set],
     cond: &Option<Cond>,
@@ -119,7 +119,7 @@ fn change<S: BlockStore, R: Revisions>(
     let Ok(cells) = set_cells(alloc, sets, index.schema.as_slice()) else {
         return Err(NoMemory);
     };
-    Ok(go(
+    Ok(access(
         store,
         vault,
         room,
@@ -130,10 +130,10 @@ fn change<S: BlockStore, R: Revisions>(
 }
 
 // The row of a key is taken out.
-fn take<S: BlockStore, R: Revisions>(
+fn delete_row<S: BlockStore, R: Revisions>(
     store: &mut S,
     vault: &mut Vault<R>,
-    room: &mut Room,
+    room: &mut RowBuffer,
     index: &mut Index,
     cond: &Option<Cond>,
     draw: u64,
@@ -151,14 +151,14 @@ fn take<S: BlockStore, R: Revisions>(
         (at R.state vault.old (S.state store.old)) (at R.state vault.new (S.state store.new)) }
 {
     let key = sought_key(&index.schema, cond);
-    go(store, vault, room, index, &Op::Remove(key), draw)
+    access(store, vault, room, index, &Op::Remove(key), draw)
 }
 
 // The row of a key is looked for.
-fn find<S: BlockStore, R: Revisions>(
+fn select_row<S: BlockStore, R: Revisions>(
     store: &mut S,
     vault: &mut Vault<R>,
-    room: &mut Room,
+    room: &mut RowBuffer,
     index: &mut Index,
     select: &SelectRows,
     draw: u64,
@@ -176,7 +176,7 @@ fn find<S: BlockStore, R: Revisions>(
         (at R.state vault.old (S.state store.old)) (at R.state vault.new (S.state store.new)) }
 {
     let key = sought_key(&index.schema, &select.cond);
-    go(store, vault, room, index, &Op::Get(key), draw)
+    access(store, vault, room, index, &Op::Get(key), draw)
 }
 
 /// How many accesses a statement asks for.
@@ -194,7 +194,7 @@ pub fn serve<S: BlockStore, R: Revisions>(
     alloc: Global,
     store: &mut S,
     vault: &mut Vault<R>,
-    room: &mut Room,
+    room: &mut RowBuffer,
     index: &mut Index,
     stmt: &Stmt,
     draw: u64,
@@ -218,7 +218,7 @@ pub fn serve<S: BlockStore, R: Revisions>(
             columns,
             values,
             ..
-        } => put(
+        } => insert_row(
             alloc,
             store,
             vault,
@@ -228,7 +228,7 @@ pub fn serve<S: BlockStore, R: Revisions>(
             values.as_slice(),
             draw,
         ),
-        Stmt::Update { sets, cond, .. } => change(
+        Stmt::Update { sets, cond, .. } => update_row(
             alloc,
             store,
             vault,
@@ -238,8 +238,8 @@ pub fn serve<S: BlockStore, R: Revisions>(
             cond,
             draw,
         ),
-        Stmt::Delete { cond, .. } => Ok(take(store, vault, room, index, cond, draw)),
-        Stmt::SelectRows(select) => Ok(find(store, vault, room, index, select, draw)),
+        Stmt::Delete { cond, .. } => Ok(delete_row(store, vault, room, index, cond, draw)),
+        Stmt::SelectRows(select) => Ok(select_row(store, vault, room, index, select, draw)),
         Stmt::Create { .. } | Stmt::Drop { .. } | Stmt::SelectTotals(_) => unreachable!(),
     }
 }

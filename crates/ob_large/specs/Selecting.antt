@@ -40,7 +40,7 @@ pub record Empties {T : Type 0} (pack : ℕ) (flat : Flat) (p : Row → Bool)
   pub told : IsHonest old new → (slots : Slots) → Represents pack flat slots old
       → MatchResult result (λ _. Represents pack flat (large_slots p slots) new) (λ e. e ≡ Failed)
 
--- a new table is the same as another, but for its region, which has no blocks yet
+-- a new table is the same as another, except for its region, which has no blocks yet
 pub record IsNew (pack : ℕ) (flat to : Flat) (w : World) : Type 0 where
   pub same : to ≡ moved flat to.region
   pub made : IsMade pack to w

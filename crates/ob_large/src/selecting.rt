@@ -13,7 +13,7 @@ ghost use Rattle.ob_large.specs.Selecting.{IsNew, Fills, Selects};
 use crate::changing::Unchanged;
 use crate::emptying::empty_unselected;
 use ob_flat::{Flat, OpErr, make_table, swap_blocks};
-use ob_room::{ClearRow, Room};
+use ob_room::{ClearRow, RowBuffer};
 use ob_row::Pred;
 use ob_store::BlockStore;
 use ob_vault::{Order, Revisions, Vault};
@@ -93,7 +93,7 @@ fn select_rows<S: BlockStore, R: Revisions>(
 pub fn select<S: BlockStore, R: Revisions>(
     store: &mut S,
     vault: &mut Vault<R>,
-    room: &mut Room,
+    room: &mut RowBuffer,
     flat: &Flat,
     pred: &Pred,
     _k: u32,

@@ -4,7 +4,7 @@ use Rattle.std.specs.Prelude.{not, map, if◌then◌else◌}
 use Rattle.std.proofs.lemmas.Bool.{cases_eq, cases_Bool, ne_eqb, eq-eqb, or_left, or_right, or_from, true≢false}
 use Rattle.ob_path.specs.Paths.{above}
 use Rattle.ob_linked.specs.declared.version.Version.{Version}
-use Rattle.ob_linked.specs.Linked.{IsMade, Body, Block, Cells, Tree, Turn, body_at, place_at, place_of, block_at, blocks_of, spare_at, child_in, is_among, Lies, Opens, Reads, GoesDown, GoesUp, AreApart, IsSealed, AreOf, OnlySpares, AreSpare, AreNew, AreApartFrom, Stands, Life, over, accessed, set, killed, rewritten, turned, turned_all, with_block, with_blocks, side_behind, paths_of}
+use Rattle.ob_linked.specs.Linked.{IsMade, Body, Block, Cells, Tree, Turn, body_at, place_at, place_of, block_at, blocks_of, spare_at, child_in, is_among, IsStoredIn, Opens, Reads, GoesDown, GoesUp, AreApart, IsSealed, AreOf, OnlySpares, AreSpare, AreNew, AreApartFrom, Stands, Life, over, accessed, set, killed, rewritten, turned, turned_all, with_block, with_blocks, side_behind, paths_of}
 
 -- ---- places
 not_self : (s : Bool) → s ≡ not s → ⊥
@@ -58,7 +58,7 @@ among_left b (c ∷ done) rest there = elim (cases_Bool (c == b)) [
 ]
 
 module _ {A : Type 0} (t : Tree A) where
-  pub stays : (n : ℕ) (path : List ℕ) (old new : Cells A) → Lies n t old → OnlySpares t path old new → Lies n t new
+  pub stays : (n : ℕ) (path : List ℕ) (old new : Cells A) → IsStoredIn n t old → OnlySpares t path old new → IsStoredIn n t new
   stays n path old new lies only = record { each = λ b within. only.others (place_at t b) (λ c among same. differ b c same) ∙ lies.each b within }
     where
       differ : (b c : ℕ) → place_at t b ≡ spare_at t c → ⊥
@@ -122,7 +122,7 @@ module _ {A : Type 0} (t : Tree A) (path : List ℕ) (rows : ℕ → A) (version
       ∙ ap (λ x. made_of b (now.rows b) (now.version b) x (t.version (2 * b + 2))) (sym l)
       ∙ ap (λ x. made_of b (now.rows b) (now.version b) (now.version (2 * b + 1)) x) (sym r)
 
-  pub new_lies : (n : ℕ) (cells : Cells A) → Lies n t cells → GoesUp path → Lies n now (with_blocks cells (blocks_of now path))
+  pub new_lies : (n : ℕ) (cells : Cells A) → IsStoredIn n t cells → GoesUp path → IsStoredIn n now (with_blocks cells (blocks_of now path))
   new_lies n cells lies up = record { each = λ b within. elim (cases_Bool (is_among path b)) [ inl on ↦ on_path now path cells b on | inr off ↦ by_off b within off ] }
     where
       by_off : (b : ℕ) → b < n → is_among path b ≡ false → with_blocks cells (blocks_of now path) (place_at now b) ≡ Some (block_at now b)

@@ -12,7 +12,7 @@ use Rattle.ob_tree.proofs.PathLemmas.{Apart, apart_path}
 use Rattle.ob_tree.proofs.TreeLemmas.{other_bucket}
 use Rattle.ob_tree.proofs.EvictLemmas.{four_slots, apart_fill}
 use Rattle.ob_tree.proofs.AccessLemmas.{went_is}
-use Rattle.ob_linked.specs.Linked.{Cells, Tree, Lies, IsTreeOf, Saves, is_among, turned, blocks_of, with_blocks}
+use Rattle.ob_linked.specs.Linked.{Cells, Tree, IsStoredIn, IsTreeOf, Saves, is_among, turned, blocks_of, with_blocks}
 use Rattle.ob_linked.proofs.LinkedLemmas.{stays, new_lies, writes_spare, rows_on, rows_off}
 use Rattle.ob_linked.proofs.DownLemmas.{path_up_goes, among_path}
 
@@ -24,7 +24,7 @@ untouched fits (b ∷ bs) e apart c off =
     ∙ other_bucket e.tree b (slots_of 4 (firsts 4 (fits b) e.left)) (four_slots fits b e.left) apart.0 c (λ same. eqb-false b c both.0 (sym same))
 
 module _ {R : Type 0} (key : R → ℕ) (h draw : ℕ) (s : State R) (op : Op R) (w : Went R) (size : length s.tree ≡ 4 * (2 ^ (h + 1) - 1)) (less : leaf_read h s (key_of key op) draw < 2 ^ h) (goes : access key h s op draw ≡ Some w)
-    (t : Tree (List (Option R))) (cells : Cells (List (Option R))) (is : IsTreeOf (2 ^ (h + 1) - 1) t s.tree) (lies : Lies (2 ^ (h + 1) - 1) t cells) (run : ℕ) (number : ℕ → ℕ) where
+    (t : Tree (List (Option R))) (cells : Cells (List (Option R))) (is : IsTreeOf (2 ^ (h + 1) - 1) t s.tree) (lies : IsStoredIn (2 ^ (h + 1) - 1) t cells) (run : ℕ) (number : ℕ → ℕ) where
   abbrev leaf : ℕ
   leaf = leaf_read h s (key_of key op) draw
 
@@ -45,6 +45,6 @@ module _ {R : Type 0} (key : R → ℕ) (h draw : ℕ) (s : State R) (op : Op R)
         | inr off ↦ rows_off t (path h leaf) (bucket w.state.tree) turns b off ∙ is.rows b within ∙ sym (other b off)
       ];
     };
-    before = λ done rest parts. subst (λ p. Lies (2 ^ (h + 1) - 1) t (with_blocks cells (blocks_of (turned t p (bucket w.state.tree) run number) done))) (sym parts)
+    before = λ done rest parts. subst (λ p. IsStoredIn (2 ^ (h + 1) - 1) t (with_blocks cells (blocks_of (turned t p (bucket w.state.tree) run number) done))) (sym parts)
         (stays t (2 ^ (h + 1) - 1) (done ++ rest) cells _ lies (writes_spare t done rest (bucket w.state.tree) run number cells));
   }

@@ -6,7 +6,7 @@ use Rattle.ob_path.specs.Paths.{above}
 use Rattle.ob_linked.specs.declared.version.Version.{Version}
 use Rattle.ob_linked.specs.declared.writing.Step.{Step}
 use Rattle.ob_linked.specs.declared.writing.Failed.{Failed}
-use Rattle.ob_linked.specs.Linked.{Block, Cells, Tree, Lies, place_of, place_at, spare_at, block_at, blocks_of, is_among, with_block, with_blocks, turned, GoesUp, OnlySpares}
+use Rattle.ob_linked.specs.Linked.{Block, Cells, Tree, IsStoredIn, place_of, place_at, spare_at, block_at, blocks_of, is_among, with_block, with_blocks, turned, GoesUp, OnlySpares}
 use Rattle.ob_linked.specs.Writing.{sealed_as, Puts, Spoils, buckets_of, rows_in, numbers_in, child_version, block_of, blocks_from, IsOther, KeepsOthers, Writes, Follows, FromRoot, IsStepOf, AreStepsOf, IsPathOf}
 use Rattle.ob_linked.proofs.LinkedLemmas.{stays, new_lies, version_off, made_of}
 
@@ -173,10 +173,10 @@ module _ (t : Tree ℕ) (run : ℕ) where
   pub only_spares : (path : List Step) (old new : Cells ℕ) → AreStepsOf t path → KeepsOthers path old new → OnlySpares t (buckets_of path) old new
   only_spares path old new steps keeps = record { others = λ x off. keeps.others x (λ other. let spare = other_spare path x steps other in off spare.0 spare.1 spare.2) }
 
-  pub lies_before : (path : List Step) (n : ℕ) (old new : Cells ℕ) → IsPathOf t path → KeepsOthers path old new → Lies n t old → Lies n t new
+  pub lies_before : (path : List Step) (n : ℕ) (old new : Cells ℕ) → IsPathOf t path → KeepsOthers path old new → IsStoredIn n t old → IsStoredIn n t new
   lies_before path n old new is keeps lies = stays t n (buckets_of path) old new lies (only_spares path old new is.steps keeps)
 
-  pub lies_behind : (path : List Step) (number n : ℕ) (old new : Cells ℕ) → IsPathOf t path → ((x : ℕ) → new x ≡ with_blocks old (blocks_from path run number) x) → Lies n t old → Lies n (later path number) new
+  pub lies_behind : (path : List Step) (number n : ℕ) (old new : Cells ℕ) → IsPathOf t path → ((x : ℕ) → new x ≡ with_blocks old (blocks_from path run number) x) → IsStoredIn n t old → IsStoredIn n (later path number) new
   lies_behind path number n old new is all lies =
       let behind = new_lies t (buckets_of path) (rows_in path) (λ b. record { side = not (t.version b).side; run = run; number = numbers_in number path b }) n old lies (goes_up path is.root) in
       record {
@@ -187,6 +187,6 @@ module _ (t : Tree ℕ) (run : ℕ) where
       }
 
 pub behind_ok : (run number : ℕ) (path : List Step) (old new : Cells ℕ) (result : Result (Unit {0}) Failed) → OnOk result ((x : ℕ) → new x ≡ with_blocks old (blocks_from path run number) x)
-    → OnOk result ((n : ℕ) (t : Tree ℕ) → IsPathOf t path → Lies n t old → Lies n (turned t (buckets_of path) (rows_in path) run (numbers_in number path)) new)
+    → OnOk result ((n : ℕ) (t : Tree ℕ) → IsPathOf t path → IsStoredIn n t old → IsStoredIn n (turned t (buckets_of path) (rows_in path) run (numbers_in number path)) new)
 behind_ok run number path old new (Ok u) all = λ n t is lies. lies_behind t run path number n old new is all lies
 behind_ok run number path old new (Err e) none = tt

@@ -7,7 +7,7 @@ use Rattle.ob_path.specs.States.{State}
 pub data Text (R : Type 0) : Type 0 where
   -- its run was killed, or stopped, before the mark named it
   Unnamed : Op R → Text R
-  -- the mark named it with its draw, and it was answered, or its run was killed before that, in the midst of its access or behind it
+  -- the mark named it with its draw, and it was answered, or its run was killed before that, in the midst of its access or after it
   Named : Op R → (draw : ℕ) → (answered : Bool) → Text R
 
 -- what rests: an index, and the operation that the mark names with its draw

@@ -11,10 +11,10 @@ pub data Event : Type 0 where
   Failed : ℕ → Event
   -- a key was accessed, which is none of the keys where its number is past all of them, and that was saved; it takes a draw
   Accessed : ℕ → Event
-  -- a key's access had begun to read when its run was killed, before it was saved: in the run behind it the key has the draw that
+  -- a key's access had begun to read when its run was killed, before it was saved: in the run after it the key has the draw that
   -- it had
   Killed : ℕ → Event
-  -- a run that went on behind a kill gave these keys a new draw each
+  -- a run that went on after a kill gave these keys a new draw each
   Renewed : List ℕ → Event
 
 -- these keys take the draws from the next on
@@ -35,7 +35,7 @@ numbers_read next given (Renewed ks ∷ events) = numbers_read (next + length ks
 pub record NoneHas (draw : ℕ) (given : List ℕ) : Type 0 where
   pub none : (j : ℕ) → j < length given → slice_index_or given j 0 ≢ draw
 
--- behind each kill keys are renewed until none has the draw that was read, before any key is accessed again
+-- after each kill keys are renewed until none has the draw that was read, before any key is accessed again
 abbrev pub IsMended : (next : ℕ) → (given : List ℕ) → (pending : Option ℕ) → List Event → Type 0
 IsMended next given pending [] = Unit {0}
 IsMended next given None (Made n ∷ events) = IsMended (next + n) (given ++ numbers next n) None events

@@ -46,7 +46,7 @@ abbrev pub block_at : {A : Type 0} → Tree A → ℕ → Block A
 block_at t b = record { at = place_at t b; version = t.version b; body = body_at t b }
 
 -- a tree of n buckets lies in a region
-pub record Lies {A : Type 0} (n : ℕ) (t : Tree A) (cells : Cells A) : Type 0 where
+pub record IsStoredIn {A : Type 0} (n : ℕ) (t : Tree A) (cells : Cells A) : Type 0 where
   pub each : (b : ℕ) → b < n → cells (place_at t b) ≡ Some (block_at t b)
 
 -- ---- reading
@@ -117,7 +117,7 @@ blocks_of t path = map (block_at t) path
 abbrev pub GoesUp : List ℕ → Type 0
 GoesUp path = (c : ℕ) → c ≢ 0 → is_among path c ≡ true → is_among path (above c) ≡ true
 
--- nothing but spare places of a path's buckets has changed, these in whichever way: a write that was cut short included
+-- nothing except spare places of a path's buckets has changed, these in whichever way: a write that was cut short included
 pub record OnlySpares {A : Type 0} (t : Tree A) (path : List ℕ) (old new : Cells A) : Type 0 where
   pub others : (x : ℕ) → ((b : ℕ) → is_among path b ≡ true → x ≢ spare_at t b) → new x ≡ old x
 
@@ -143,14 +143,14 @@ pub data Life {A : Type 0} : (marked now : Tree A) → Cells A → (made : List 
       → Life m (rewritten t path rows version) (with_blocks c (blocks_of (rewritten t path rows version) path)) (s ++ blocks_of (rewritten t path rows version) path) m2 t2 c2 s2 → Life m t c s m2 t2 c2 s2
   -- the mark is set: it names the tree in use
   set : {m t m2 t2 : Tree A} {c c2 : Cells A} {s s2 : List (Block A)} → Life t t c s m2 t2 c2 s2 → Life m t c s m2 t2 c2 s2
-  -- a run is killed, in the midst of such writes, or between them; the run behind it goes on from the mark
+  -- a run is killed, in the midst of such writes, or between them; the run after it goes on from the mark
   killed : {m t m2 t2 : Tree A} {c d c2 : Cells A} {s s2 : List (Block A)} (path : List ℕ) (more : List (Block A)) → OnlySpares m path c d → AreApartFrom s more
       → Life m m d (s ++ more) m2 t2 c2 s2 → Life m t c s m2 t2 c2 s2
 
 -- both trees lie there, of blocks that were sealed, each once for its place and version
 pub record Stands {A : Type 0} (n : ℕ) (m t : Tree A) (cells : Cells A) (made : List (Block A)) : Type 0 where
-  pub marked : Lies n m cells
-  pub current : Lies n t cells
+  pub marked : IsStoredIn n m cells
+  pub current : IsStoredIn n t cells
   pub apart : AreApart made
   pub marked_sealed : IsSealed made n m
   pub current_sealed : IsSealed made n t
@@ -180,14 +180,14 @@ paths_of turns = map (λ turn. turn.path) turns
 pub record IsTreeOf {R : Type 0} (n : ℕ) (t : Tree (List (Option R))) (slots : List (Option R)) : Type 0 where
   pub rows : (b : ℕ) → b < n → t.rows b ≡ bucket slots b
 
--- the tree behind an access that wrote the path of a leaf, in this run and under these numbers
+-- the tree after an access that wrote the path of a leaf, in this run and under these numbers
 abbrev pub behind : {R : Type 0} → Tree (List (Option R)) → (h leaf : ℕ) → State R → (run : ℕ) → (number : ℕ → ℕ) → Tree (List (Option R))
 behind t h leaf s run number = turned t (path h leaf) (bucket s.tree) run number
 
 -- what an access leaves in the region whose path it wrote from the root down
 pub record Saves {R : Type 0} (h leaf : ℕ) (t : Tree (List (Option R))) (new : State R) (run : ℕ) (number : ℕ → ℕ) (cells : Cells (List (Option R))) : Type 0 where
-  -- the index behind the access
-  pub lies : Lies (2 ^ (h + 1) - 1) (behind t h leaf new run number) (with_blocks cells (blocks_of (behind t h leaf new run number) (path h leaf)))
+  -- the index after the access
+  pub lies : IsStoredIn (2 ^ (h + 1) - 1) (behind t h leaf new run number) (with_blocks cells (blocks_of (behind t h leaf new run number) (path h leaf)))
   pub is : IsTreeOf (2 ^ (h + 1) - 1) (behind t h leaf new run number) new.tree
   -- and, once any first part of it was written, the index before it
-  pub before : (done rest : List ℕ) → path h leaf ≡ done ++ rest → Lies (2 ^ (h + 1) - 1) t (with_blocks cells (blocks_of (behind t h leaf new run number) done))
+  pub before : (done rest : List ℕ) → path h leaf ≡ done ++ rest → IsStoredIn (2 ^ (h + 1) - 1) t (with_blocks cells (blocks_of (behind t h leaf new run number) done))

@@ -10,7 +10,7 @@ ghost use Rattle.ob_linked.specs.declared.version.Version.{Version};
 ghost use Rattle.ob_tree.specs.Runs.{run};
 ghost use Rattle.ob_linked.specs.Ahead.{Text, Rested, woken, served, named, given};
 ghost use Rattle.ob_linked.specs.Leaves.{Event, Accessed, Killed, Made, IsMended, NoneHas, numbers_read, renewed};
-ghost use Rattle.ob_linked.specs.Linked.{Body, Block, Cells, Tree, Turn, body_at, block_at, blocks_of, Lies, Reads, GoesDown, GoesUp, AreApart, IsSealed, AreOf, OnlySpares, Life, Stands, rewritten, turned, turned_all, Saves, IsTreeOf, is_among, with_block, with_blocks, side_behind, paths_of, spare_at};
+ghost use Rattle.ob_linked.specs.Linked.{Body, Block, Cells, Tree, Turn, body_at, block_at, blocks_of, IsStoredIn, Reads, GoesDown, GoesUp, AreApart, IsSealed, AreOf, OnlySpares, Life, Stands, rewritten, turned, turned_all, Saves, IsTreeOf, is_among, with_block, with_blocks, side_behind, paths_of, spare_at};
 
 mod memory;
 mod reading;
@@ -35,8 +35,8 @@ pub fn root_tells_path<A>()
 /// A tree lies where it lay while others of its places than it needs are written, in whichever way: whole, in part, or
 /// with something else. The blocks of a path's buckets that are written anew go to such places.
 pub fn old_tree_stays<A>()
-    ensures stays { (n : ℕ) (t : Tree A) (path : List ℕ) (old new : Cells A) → Lies n t old
-        → OnlySpares t path old new → Lies n t new }
+    ensures stays { (n : ℕ) (t : Tree A) (path : List ℕ) (old new : Cells A) → IsStoredIn n t old
+        → OnlySpares t path old new → IsStoredIn n t new }
     ensures writes { (t : Tree A) (done rest : List ℕ) (rows : ℕ → A) (run : ℕ) (number : ℕ → ℕ)
         (cells : Cells A) → OnlySpares t (done ++ rest) cells
         (with_blocks cells (blocks_of (turned t (done ++ rest) rows run number) done)) }
@@ -48,8 +48,8 @@ pub fn old_tree_stays<A>()
 /// Once all blocks of a path are written, the tree with that path lies there, whichever of its places each bucket took.
 pub fn new_tree_lies<A>()
     ensures { (n : ℕ) (t : Tree A) (path : List ℕ) (rows : ℕ → A) (version : ℕ → Version)
-        (cells : Cells A) → Lies n t cells → GoesUp path
-        → Lies n (rewritten t path rows version)
+        (cells : Cells A) → IsStoredIn n t cells → GoesUp path
+        → IsStoredIn n (rewritten t path rows version)
         (with_blocks cells (blocks_of (rewritten t path rows version) path)) }
 {}
 
@@ -75,19 +75,19 @@ pub fn paths_can_be_read()
     ensures up { (h leaf : ℕ) → leaf < 2 ^ h → GoesUp (path h leaf) }
 {}
 
-/// An access of an index writes the path that it has read to the other places of its buckets: then the index behind it lies
+/// An access of an index writes the path that it has read to the other places of its buckets: then the index after it lies
 /// there, and after each of these writes the index before it does.
 pub fn access_is_saved<R>()
     ensures { (key : R → ℕ) (h draw : ℕ) (s : State R) (op : Op R) (w : Went R)
         → length s.tree ≡ 4 * (2 ^ (h + 1) - 1) → leaf_read h s (key_of key op) draw < 2 ^ h
         → access key h s op draw ≡ Some w
         → (t : Tree (List (Option R))) (cells : Cells (List (Option R)))
-        → IsTreeOf (2 ^ (h + 1) - 1) t s.tree → Lies (2 ^ (h + 1) - 1) t cells
+        → IsTreeOf (2 ^ (h + 1) - 1) t s.tree → IsStoredIn (2 ^ (h + 1) - 1) t cells
         → (run : ℕ) (number : ℕ → ℕ)
         → Saves h (leaf_read h s (key_of key op) draw) t w.state run number cells }
 {}
 
-/// No draw is read twice over many runs, of which any may be killed, so long as behind each kill keys are renewed until none
+/// No draw is read twice over many runs, of which any may be killed, so long as after each kill keys are renewed until none
 /// has the draw that was read.
 pub fn runs_read_apart()
     ensures { (events : List Event) → IsMended 0 [] None events

@@ -1,6 +1,6 @@
 //! A path is written to the other places of its buckets.
 ghost use Rattle.std.specs.Prelude.{◌≡◌, ◌<◌, ◌≤◌, ◌+◌, ◌*◌, ◌^◌, ℕ, OnOk, OnErr, length, if◌then◌else◌, not};
-ghost use Rattle.ob_linked.specs.Linked.{Cells, Tree, Lies, turned};
+ghost use Rattle.ob_linked.specs.Linked.{Cells, Tree, IsStoredIn, turned};
 ghost use Rattle.ob_linked.specs.Writing.{Puts, Spoils, KeepsOthers, Writes, IsPathOf, buckets_of, rows_in, numbers_in, child_version, block_of};
 
 use crate::version::Version;
@@ -96,11 +96,12 @@ pub fn write_path<B: Buckets>(
     number: u64,
 ) -> Result<(), Failed>
     requires { number + length path.now < 2 ^ 64 }
-    ensures before { (n : ℕ) (t : Tree ℕ) → IsPathOf t path.now → Lies n t (B.cells region.old)
-        → Lies n t (B.cells region.new) }
+    ensures before { (n : ℕ) (t : Tree ℕ) → IsPathOf t path.now
+        → IsStoredIn n t (B.cells region.old)
+        → IsStoredIn n t (B.cells region.new) }
     ensures behind { OnOk result ((n : ℕ) (t : Tree ℕ) → IsPathOf t path.now
-        → Lies n t (B.cells region.old)
-        → Lies n (turned t (buckets_of path.now) (rows_in path.now) run
+        → IsStoredIn n t (B.cells region.old)
+        → IsStoredIn n (turned t (buckets_of path.now) (rows_in path.now) run
         (numbers_in number path.now))
         (B.cells region.new)) }
 {

@@ -144,7 +144,7 @@ pub accepted : {T E : Type 0} (r : Result T E) (P : T → Type 0) (Q : E → Typ
 accepted (Ok y) P Q x is so = let same : x ≡ y = cc is in subst P (sym same) so
 accepted (Err e) P Q x is so = absurd (cc is)
 
--- what reads the lines of a closing reads all but these two
+-- what reads the lines of a closing reads all except these two
 pub reads_others : (line : List ℕ) (r : Option Mark) → (line ≡ codes "in use\n" → ⊥) → (line ≡ codes "begun\n" → ⊥)
     → ((region blocks number pack : ℕ) → Spells line (Closed region blocks number pack) → r ≡ Some (Closed region blocks number pack))
     → ((region blocks number pack : ℕ) (salt check : List ℕ) → Spells line (Saved region blocks number pack salt check) → r ≡ Some (Saved region blocks number pack salt check))

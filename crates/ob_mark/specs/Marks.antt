@@ -43,7 +43,7 @@ Spells text (Saved region blocks number pack salt check) =
     AreMarked region blocks number pack × AreSaltBytes salt × AreSaltBytes check
     × (text ≡ mark_text (Saved region blocks number pack salt check))
 
--- the line behind that of a mark which goes with one store alone
+-- the line after that of a mark which goes with one store alone
 abbrev pub store_text : Option (List ℕ) → List ℕ
 store_text None = []
 store_text (Some id) = codes "store " ++ bytes_text id
@@ -62,7 +62,7 @@ pub record HoldsMark (text : List ℕ) (held : Held) : Type 0 where
   pub id : IsIdentity held.id
   pub is : text ≡ held_text held
 
--- the line of a store's identity, behind the number of the form of its files
+-- the line of a store's identity, after the number of the form of its files
 abbrev pub id_text : List ℕ → List ℕ
 id_text id = codes "ribquince 1 " ++ bytes_text id
 

@@ -12,7 +12,7 @@ use ob_reopen::Mark;
 use std::io::Write;
 use std::str;
 
-/// The bytes of the line that names a store behind its mark.
+/// The bytes of the line that names a store after its mark.
 const STORE: usize = 39;
 
 /// A mark, and the identity of the one store that it goes with, where it does.
@@ -55,7 +55,7 @@ pub fn id_of(text: &[u8]) -> Result<[u8; 16], NotId>
     }
 }
 
-// The identity that stands behind the first words.
+// The identity that stands after the first words.
 fn id_behind(rest: &[u8]) -> Result<[u8; 16], NotId>
     ensures spelt { IfOk result (λ id. (rest.now ≡ bytes_text id) × AreSaltBytes id) }
     ensures read { (id : List ℕ) → AreSaltBytes id → rest.now ≡ bytes_text id → result ≡ Ok id }

@@ -96,7 +96,7 @@ pub fn spell<W: Write>(out: &mut W, mark: &Mark) -> Result<(), Failed>
     }
 }
 
-// A text before its first blank, and behind it.
+// A text before its first blank, and after it.
 fn word(text: &str) -> Option<(&str, &str)>
     ensures spelt { IfSome result (λ w. text.now ≡ w.0.now ++ 32 ∷ w.1.now) }
     ensures read { (head rest : List ℕ) → HasNoBlank head → text.now ≡ head ++ 32 ∷ rest
@@ -119,7 +119,7 @@ pub fn number_of(digits: &str) -> Option<u64>
     }
 }
 
-// The number before a text's first blank, and what is behind it.
+// The number before a text's first blank, and what is after it.
 fn numbered(text: &str) -> Option<(u64, &str)>
     ensures spelt { IfSome result (λ r. text.now ≡ decimal r.0 ++ 32 ∷ r.1.now) }
     ensures read { (n : ℕ) (rest : List ℕ) → n < 2 ^ 64 → text.now ≡ decimal n ++ 32 ∷ rest
@@ -159,7 +159,7 @@ fn bytes_of(digits: &str) -> Option<[u8; 16]>
     }
 }
 
-// The 16 bytes before a text's first blank, and what is behind it.
+// The 16 bytes before a text's first blank, and what is after it.
 fn salted(text: &str) -> Option<([u8; 16], &str)>
     ensures spelt { IfSome result (λ r.
         (text.now ≡ encode_lower r.0 ++ 32 ∷ r.1.now) × AreSaltBytes r.0) }

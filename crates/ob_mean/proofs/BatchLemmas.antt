@@ -10,7 +10,7 @@ use Rattle.std.proofs.lemmas.Slice.Eq.{bytes_eq-Decides}
 use Rattle.ob_base.specs.declared.config.Public.{Public}
 use Rattle.ob_base.specs.declared.refusal.Refusal.{Refusal}
 use Rattle.ob_base.specs.declared.schema.Heading.{Heading}
-use Rattle.ob_base.specs.declared.seen.End.TheVariants.{Joined, Static}
+use Rattle.ob_base.specs.declared.seen.End.TheVariants.{Batched, Static}
 use Rattle.ob_base.specs.declared.skeleton.Skeleton.{Skeleton}
 use Rattle.ob_base.specs.declared.skeleton.Skeleton.TheVariants.{Create as CreateSkeleton, Insert as InsertSkeleton, Update as UpdateSkeleton, Delete as DeleteSkeleton, Drop as DropSkeleton, Rows, Groups}
 use Rattle.ob_base.specs.Stored.{headings, headings_of}
@@ -115,7 +115,7 @@ module _ (p : Public) (alone : p.batch ≡ None) where
 pub soon : (m n : ℕ) → m + 2 ^ 50 < 2 ^ 63 → n ≤ 2 ^ 50 → is_late (m + n) ≡ false
 soon m n room few = let early : m + n < 2 ^ 63 = omega (arith, room, few) in grind (arith, nat_tests)
 
--- ---- an INSERT means the same, by other settings and behind other accesses, while both are late or neither
+-- ---- an INSERT means the same, by other settings and after other accesses, while both are late or neither
 abbrev pub Inserts : Stmt → Type 0
 Inserts stmt = IsSome (inserts_into (skeleton stmt))
 
@@ -163,7 +163,7 @@ module _ (p q : Public) (m n : ℕ) (late : is_late m ≡ is_late n) where
       ∙ ap (verdicts d q n stmts) (settle_like d ts stmt (All-head Inserts stmt stmts inserts)) in
       λ i. verdict_like ts stmt (All-head Inserts stmt stmts inserts) i ∷ rest i
 
--- ---- the session behind one that asks nothing
+-- ---- the session after one that asks nothing
 -- what an INSERT leaves that was served with the one before it
 pub after_with : (s : Session) (stmt : Stmt)
     → after With s stmt ≡ record { public = s.public; tables = settle s.draws s.public s.asked s.tables stmt; asked = s.asked; draws = s.draws }
@@ -171,7 +171,7 @@ after_with s stmt =
     let asked : s.asked + 0 ≡ s.asked = omega arith in
     let drawn : s.draws.drawn + 0 ≡ s.draws.drawn = omega arith in
     λ i. record {
-      public = stays_public s.public (skeleton stmt) (ended Joined) refl i;
+      public = stays_public s.public (skeleton stmt) (ended Batched) refl i;
       tables = settle s.draws s.public s.asked s.tables stmt;
       asked = asked i;
       draws = record s.draws { drawn = drawn i };
@@ -182,7 +182,7 @@ after_cut_with s stmt =
     let asked : s.asked + 0 ≡ s.asked = omega arith in
     let drawn : s.draws.drawn + 0 ≡ s.draws.drawn = omega arith in
     λ i. record {
-      public = stays_public s.public (skeleton stmt) (ended Joined) refl i;
+      public = stays_public s.public (skeleton stmt) (ended Batched) refl i;
       tables = s.tables;
       asked = asked i;
       draws = record s.draws { drawn = drawn i };

@@ -9,7 +9,7 @@ use Rattle.ob_base.specs.declared.schema.Shape.{Shape}
 use Rattle.ob_base.specs.declared.schema.Shape.TheVariants.{Flat}
 use Rattle.ob_base.specs.declared.schema.Table.{Table}
 use Rattle.ob_base.specs.declared.seen.End.{End}
-use Rattle.ob_base.specs.declared.seen.End.TheVariants.{Static, Whole, AfterCount, Joined, Cut}
+use Rattle.ob_base.specs.declared.seen.End.TheVariants.{Static, Whole, AfterCount, Batched, Cut}
 use Rattle.ob_base.specs.declared.seen.Seen.{Seen}
 use Rattle.ob_base.specs.declared.skeleton.Skeleton.{Skeleton}
 use Rattle.ob_base.specs.declared.skeleton.Skeleton.TheVariants.{Create as CreateSkeleton, Insert as InsertSkeleton, Update as UpdateSkeleton, Delete as DeleteSkeleton, Drop as DropSkeleton, Rows, Groups}
@@ -23,7 +23,7 @@ use Rattle.ob_base.specs.Schemas.{columns_of, width}
 use Rattle.ob_base.specs.Stored.{Stored, heading_at, headings, headings_of, stored_at, stored_regions}
 use Rattle.ob_row.specs.Slots.{empty_slots}
 use Rattle.ob_script.specs.Parts.{count_part, create_part, insert_part, rewrite_part}
-use Rattle.ob_script.specs.Script.{Behind, behind_change, blocks_of, created_script, dropped_script, extent_of, flat_script, index_part_of, join_script, mutation_script, shape_script, whole_script, with_table}
+use Rattle.ob_script.specs.Script.{FollowUp, behind_change, blocks_of, created_script, dropped_script, extent_of, flat_script, index_part_of, join_script, mutation_script, shape_script, whole_script, with_table}
 use Rattle.ob_sql.specs.declared.stmt.SelectRows.{SelectRows}
 use Rattle.ob_sql.specs.declared.stmt.Stmt.{Stmt}
 use Rattle.ob_sql.specs.declared.stmt.Stmt.TheVariants.{Create, Insert, Update, Delete, Drop as DropTable, SelectRows as RowsStmt, SelectTotals as TotalsStmt}
@@ -148,14 +148,14 @@ none_drawn p (Groups table cs key) flat made = refl
 
 pub no_draws : (p : Public) (s : Skeleton) (end : End) → AreFlat (headings_of p.tables) → MakesFlat s → draws_taken p s end ≡ 0
 no_draws p s Static flat made = refl
-no_draws p s Joined flat made = refl
+no_draws p s Batched flat made = refl
 no_draws p s other flat made = none_drawn p s flat made
 
 -- ---- the accesses
 pub shape_is : (p : Public) (leaf : Option ℕ) (f : Stored ℕ → List Access) (t : Stored ℕ) → t.heading.shape ≡ Flat → shape_script p leaf f t ≡ f t
 shape_is p leaf f t flat = ap (λ (shape : Shape). by_shape shape (f t) (index_part_of p leaf t)) flat
 
-pub dropped_is : (behind : Behind) (t : Stored ℕ) → t.heading.shape ≡ Flat → dropped_script behind t ≡ behind (Some t.held)
+pub dropped_is : (behind : FollowUp) (t : Stored ℕ) → t.heading.shape ≡ Flat → dropped_script behind t ≡ behind (Some t.held)
 dropped_is behind t flat = ap (λ (shape : Shape). by_shape shape (behind (Some t.held)) (discard_at t.held ++ discard_at (t.held + 1))) flat
 
 abbrev pub flat_source : Public → Seen → Source → List Access

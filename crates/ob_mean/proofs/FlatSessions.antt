@@ -6,7 +6,7 @@ use Rattle.ob_base.specs.declared.refusal.Refusal.{Refusal}
 use Rattle.ob_base.specs.declared.schema.Shape.TheVariants.{Flat, Indexed}
 use Rattle.ob_base.specs.declared.schema.Table.{Table}
 use Rattle.ob_base.specs.declared.seen.End.{End}
-use Rattle.ob_base.specs.declared.seen.End.TheVariants.{Static, Whole, AfterCount, Joined, Cut}
+use Rattle.ob_base.specs.declared.seen.End.TheVariants.{Static, Whole, AfterCount, Batched, Cut}
 use Rattle.ob_base.specs.declared.seen.Seen.{Seen}
 use Rattle.ob_base.specs.declared.skeleton.Skeleton.{Skeleton}
 use Rattle.ob_base.specs.declared.skeleton.Skeleton.TheVariants.{Create as CreateSkeleton, Insert as InsertSkeleton, Update as UpdateSkeleton, Delete as DeleteSkeleton, Drop as DropSkeleton, Rows, Groups}
@@ -103,7 +103,7 @@ public_flat p s now made flat = by_end now.end
     by_end Whole = behind s made
     by_end other = flat
 
--- behind a statement of which only what is lawful was seen
+-- after a statement of which only what is lawful was seen
 pub next_flat : (p : Public) (m : ℕ) (stmt : Stmt) (x : Seen) → Lawful p m stmt x → p.keep ≡ true → AreFlat (headings_of p.tables) → AreFlat (headings_of (next p (skeleton stmt) x).tables)
 next_flat p m stmt x law kept flat = go (early_refusal (is_late m) (limits_of p) (headings_of p.tables) stmt) refl
   where

@@ -1,4 +1,4 @@
--- A text that doesn't meet a full stash, and those behind it.
+-- A text that doesn't meet a full stash, and those after it.
 use Rattle.std.proofs.Common.{◌≡◌, Bool, false, List, [], ◌∷◌, ap}
 use Rattle.std.specs.Prelude.{Ok, if◌then◌else◌}
 use Rattle.ob_sql.specs.declared.stmt.Stmt.{Stmt}

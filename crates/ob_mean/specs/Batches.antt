@@ -3,7 +3,7 @@ use Rattle.std.specs.Prelude.{ℕ, ◌+◌, ◌-◌, ◌^◌, Bool, true, false,
 use Rattle.std.specs.Option.{is_none, option_map, option_map_or}
 use Rattle.ob_base.specs.declared.config.Public.{Public}
 use Rattle.ob_base.specs.declared.seen.End.{End}
-use Rattle.ob_base.specs.declared.seen.End.TheVariants.{Joined, Cut}
+use Rattle.ob_base.specs.declared.seen.End.TheVariants.{Batched, Cut}
 use Rattle.ob_base.specs.declared.skeleton.Skeleton.{Skeleton}
 use Rattle.ob_base.specs.declared.skeleton.Skeleton.TheVariants.{Insert as InsertSkeleton}
 use Rattle.ob_base.specs.Stored.{headings_of}
@@ -56,9 +56,9 @@ joins_in p g s = is_some p.batch && nat_lt g.count (batch_most p) && option_map_
 abbrev pub goes_into : Public → Option Gathering → Skeleton → Bool
 goes_into p g s = option_map_or (λ begun. joins_in p begun s) g false
 
--- ---- what is gathered behind a statement
+-- ---- what is gathered after a statement
 abbrev pub is_joined : End → Bool
-is_joined Joined = true
+is_joined Batched = true
 is_joined _ = false
 
 abbrev pub is_cut : End → Bool
@@ -79,7 +79,7 @@ gathering_after p m g stmt end =
     else if begins_batch p m stmt then begun_by (skeleton stmt) end else None
 
 -- ---- one by one, where nothing is asked between them
--- the tables behind each of these statements
+-- the tables after each of these statements
 abbrev pub settle_all : Draws → Public → (m : ℕ) → List Stmt → Tables → Tables
 settle_all d p m [] ts = ts
 settle_all d p m (stmt ∷ stmts) ts = settle_all d p m stmts (settle d p m ts stmt)

@@ -7,7 +7,7 @@ use Rattle.ob_base.specs.declared.config.Plan.TheVariants.{Small, Continuous, Ha
 use Rattle.ob_base.specs.declared.config.Planner.TheVariants.{Auto, Forced}
 use Rattle.ob_base.specs.declared.seen.Seen.{Seen}
 use Rattle.ob_base.specs.declared.seen.End.{End}
-use Rattle.ob_base.specs.declared.seen.End.TheVariants.{Static, Whole, AfterCount, Joined, Cut}
+use Rattle.ob_base.specs.declared.seen.End.TheVariants.{Static, Whole, AfterCount, Batched, Cut}
 use Rattle.ob_base.specs.declared.schema.Heading.{Heading}
 use Rattle.ob_base.specs.declared.skeleton.Source.{Source}
 use Rattle.ob_base.specs.declared.skeleton.Source.TheVariants.{Table as OneTable, Join}
@@ -64,7 +64,7 @@ abbrev pub EndsFrom : ℕ → End → Type 0
 EndsFrom m Static = ⊥
 EndsFrom m Whole = ⊤
 EndsFrom m AfterCount = ⊥
-EndsFrom m Joined = ⊥
+EndsFrom m Batched = ⊥
 EndsFrom m (Cut n) = m ≤ n
 
 -- an INSERT into a flat table, where batches are asked for
@@ -79,19 +79,19 @@ abbrev pub EndsUncounted : Public → Stmt → End → Type 0
 EndsUncounted p stmt Static = ⊤
 EndsUncounted p stmt Whole = (is_counted p stmt ≡ false) ⊎ IsSome p.pad
 EndsUncounted p stmt AfterCount = ⊥
-EndsUncounted p stmt Joined = JoinsBatch p stmt
+EndsUncounted p stmt Batched = JoinsBatch p stmt
 EndsUncounted p stmt (Cut n) = ⊤
 
--- with k and without a plan, behind a count of m accesses: none is selected, or Continuous is forced and refused
+-- with k and without a plan, after a count of m accesses: none is selected, or Continuous is forced and refused
 abbrev pub EndsUnplanned : Public → (k m : ℕ) → End → Type 0
 EndsUnplanned p k m Static = ⊥
 EndsUnplanned p k m Whole = k ≡ 0
 EndsUnplanned p k m AfterCount = (1 ≤ k) × (p.planner ≡ Forced Continuous)
-EndsUnplanned p k m Joined = ⊥
+EndsUnplanned p k m Batched = ⊥
 EndsUnplanned p k m (Cut n) = (m ≤ n) × ((k ≡ 0) ⊎ (p.planner ≡ Forced Continuous))
 
 -- what may be held together of k, the plan and the one after it: nothing, k alone, also where it is refused for it,
--- k and a plan once the count has ended, or behind a Hash that isn't forced, once it has ended, Small
+-- k and a plan once the count has ended, or after a Hash that isn't forced, once it has ended, Small
 abbrev pub Holds : Public → Stmt → Seen → (k : Option ℕ) → (plan second : Option Plan) → Type 0
 Holds p stmt seen None None None = EndsUncounted p stmt seen.end
 Holds p stmt seen (Some k) None None = IsCount p stmt k × EndsUnplanned p k (count_end p (skeleton stmt)) seen.end

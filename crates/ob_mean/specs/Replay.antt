@@ -7,7 +7,7 @@ use Rattle.ob_base.specs.Stored.{headings, headings_of}
 use Rattle.ob_base.specs.declared.refusal.Refusal.TheVariants.{Syntax, StoreFault}
 use Rattle.ob_base.specs.declared.seen.Seen.{Seen}
 use Rattle.ob_base.specs.declared.seen.End.{End}
-use Rattle.ob_base.specs.declared.seen.End.TheVariants.{Static, Whole, Joined, Cut}
+use Rattle.ob_base.specs.declared.seen.End.TheVariants.{Static, Whole, Batched, Cut}
 use Rattle.ob_base.specs.declared.skeleton.Source.TheVariants.{Table as OneTable, Join}
 use Rattle.ob_base.specs.declared.skeleton.Skeleton.{Skeleton}
 use Rattle.ob_base.specs.declared.skeleton.Skeleton.TheVariants.{Create as CreateSkeleton, Insert as InsertSkeleton, Update as UpdateSkeleton, Delete as DeleteSkeleton, Rows}
@@ -49,7 +49,7 @@ abbrev pub ending_len : Skeleton → ℕ
 ending_len (Rows (Join a b on equals) columns) = 1
 ending_len _ = 0
 
--- the accesses until the result of the first plan has been read back; it is discarded behind them
+-- the accesses until the result of the first plan has been read back; it is discarded after them
 abbrev pub walk_end : Public → Skeleton → Seen → ℕ
 walk_end p s seen = length (whole_script p s (record seen { then = None })) - (ending_len s + 1)
 
@@ -98,13 +98,13 @@ pub data How : Type 0 where
 abbrev pub seen_or_cut : How → Session → Stmt → Seen
 seen_or_cut Alone s stmt = seen_now s stmt
 seen_or_cut (CutAfter n) s stmt = cut_at true n s.public (skeleton stmt) (seen_now s stmt)
-seen_or_cut With s stmt = ended Joined
-seen_or_cut CutWith s stmt = ended Joined
+seen_or_cut With s stmt = ended Batched
+seen_or_cut CutWith s stmt = ended Batched
 
 abbrev pub served : How → Session → Stmt → Served
 served how s stmt = record { skeleton = skeleton stmt; seen = seen_or_cut how s stmt }
 
--- the reads of an access, behind which a full stash ends the session
+-- the reads of an access, after which a full stash ends the session
 abbrev pub reads_of : Session → Stmt → ℕ
 reads_of s stmt = option_map_or (λ a. s.public.stash + path_blocks (height_of a.table.heading.capacity)) (accessed s.tables stmt) 0
 
@@ -125,7 +125,7 @@ drawn_by p s = if is_access p s then 1 else 0
 
 abbrev pub draws_taken : Public → Skeleton → End → ℕ
 draws_taken p s Static = 0
-draws_taken p s Joined = 0
+draws_taken p s Batched = 0
 draws_taken p s end = drawn_by p s
 
 abbrev pub after : How → Session → Stmt → Session
@@ -154,7 +154,7 @@ abbrev pub rest_of : Broken → Broken
 rest_of [] = []
 rest_of (b ∷ bs) = bs
 
--- where the stash of an index is full, that statement has no answer, and nothing is served behind it
+-- where the stash of an index is full, that statement has no answer, and nothing is served after it
 abbrev pub answers : Session → List Spelt → Broken → List Answer
 answers s [] bs = []
 answers s (Ok stmt ∷ texts) bs =

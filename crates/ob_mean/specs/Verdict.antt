@@ -34,7 +34,7 @@ use Rattle.ob_mean.specs.Keyed.{Ask, ask_of, keyed_name, op_of}
 use Rattle.ob_mean.specs.Step.{Database, join_places, select_condition, refusal_of, accepted_answer, answered}
 use Rattle.ob_row.specs.Results.{joined, unplaced}
 
--- what a table in place holds: its slots, and of an index, whose slots are those of its tree and behind them those of its
+-- what a table in place holds: its slots, and of an index, whose slots are those of its tree and after them those of its
 -- stash, the leaf of each key
 pub record Held : Type 0 where
   pub slots : Slots
@@ -117,7 +117,7 @@ leaf_gone d a =
     let h = a.table.heading in
     leaf_read (height_of h.capacity) (index_of h a.table.held) (key_of (key_in h) (op_of h.capacity a.ask)) (next_draw d)
 
--- the tables behind it
+-- the tables after it
 abbrev pub access_settled : Tables → Stored Held → Went Row → Tables
 access_settled ts t w = changed_at t.heading.name (λ held. held_as w.state) ts
 
@@ -237,6 +237,6 @@ seen d p m ts stmt =
 abbrev pub accessed_now : Public → (m : ℕ) → Tables → Stmt → Option Accessed
 accessed_now p m ts stmt = if is_some (early_refusal (is_late m) (limits_of p) (headings ts) stmt) then None else accessed ts stmt
 
--- the stash has no room for the rows that its access leaves: it has no answer, and nothing is served behind it
+-- the stash has no room for the rows that its access leaves: it has no answer, and nothing is served after it
 abbrev pub is_full : Draws → Public → (m : ℕ) → Tables → Stmt → Bool
 is_full d p m ts stmt = option_map_or (λ a. is_none (gone d a)) (accessed_now p m ts stmt) false

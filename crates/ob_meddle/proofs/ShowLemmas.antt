@@ -3,7 +3,7 @@ use Rattle.std.proofs.Common.{Bool, IsSome, subst, sym, ◌≡◌, ◌∙◌, �
 use Rattle.std.proofs.lemmas.List.{length-take-le, take-append-le}
 use Rattle.std.specs.Option.{ForSome}
 use Rattle.ob_base.specs.declared.access.Access.{Access}
-use Rattle.ob_store.specs.State.{Disturbance, KeptRegion, Lie, Shape, StoreState}
+use Rattle.ob_store.specs.State.{Disturbance, KeptRegion, FalseRead, Shape, StoreState}
 use Rattle.ob_store.specs.Calls.{Asks, IsBefore, IsQuiet, IsSteady}
 use Rattle.ob_store.specs.Logs.{asked_of}
 use Rattle.ob_meddle.specs.declared.caught.Caught.{Caught}
@@ -17,13 +17,13 @@ use Rattle.ob_meddle.specs.Fresh.{IsEarly}
 use Rattle.ob_meddle.specs.Shows.{list_of, state_of, told_of, Shows}
 use Rattle.ob_meddle.proofs.DueLemmas.{acted_later, none_acted, none_failed, all_later}
 
--- a read was caught behind an act
+-- a read was caught after an act
 abbrev pub IsCaused : List Meddle → Option Caught → Type 0
 IsCaused list caught = ForSome caught (λ c. has_acted list (c.count + 1) ≡ true)
 
 -- as many accesses came before it as were counted
 count_of : (list : List Meddle) (asked : List Access) (caught : Option Caught) → IsEarly caught asked → IsCaused list caught
-    → (lie : Lie) → lie_of caught asked ≡ Some lie → (length lie.before < length asked) × (has_acted list (length lie.before + 1) ≡ true)
+    → (lie : FalseRead) → lie_of caught asked ≡ Some lie → (length lie.before < length asked) × (has_acted list (length lie.before + 1) ≡ true)
 count_of list asked None early caused lie is = absurd (cc is)
 count_of list asked (Some c) early caused lie is =
     let less : c.count < length asked = early c refl in
@@ -137,14 +137,14 @@ lie_stays (Some c) old more a e early =
     let less = early c refl in
     ap (λ (before : List Access). Some (record { region = c.region; place = c.place; bytes = take c.len c.bytes; before = before })) (ap (λ (l : List Access). take c.count l) e ∙ take-append-le c.count old (a ∷ []) (omega (arith, less)))
 
--- the state of a store but for its regions, and for the read that was caught
+-- the state of a store except for its regions, and for the read that was caught
 abbrev pub shown : MeddledStore → Option Caught → (ℕ → Option Shape) → (ℕ → ℕ → Option (List ℕ)) → (ℕ → Option KeptRegion) → List ℕ → StoreState
 shown m caught live last kept gave = record (state_of m) { live = live; last = last; lie = lie_of caught (asked_of m.log); kept = kept; gave = gave }
 
 -- one access more was asked, and perhaps it failed
 module _ (a : Access) (old new : MeddledStore) (faults slips : ℕ) (live : ℕ → Option Shape) (last : ℕ → ℕ → Option (List ℕ)) (kept : ℕ → Option KeptRegion) (gave : List ℕ) (asked : asked_of new.log ≡ asked_of old.log ++ a ∷ [])
     (past : new.log.past ≡ old.log.past) (spare : old.log.spare ≤ new.log.spare + 1) (list : new.list ≡ old.list) (reopened : new.reopened ≡ old.reopened) (failed : new.faults ≡ old.faults + faults) (slipped : new.slips ≡ old.slips + slips) where
-  asks_of : (caught : Option Caught) → ((lie : Lie) → (state_of old).lie ≡ Some lie → lie_of caught (asked_of new.log) ≡ Some lie) → IsEarly caught (asked_of new.log) → (new.reopened ≡ false → IsCaused new.list caught)
+  asks_of : (caught : Option Caught) → ((lie : FalseRead) → (state_of old).lie ≡ Some lie → lie_of caught (asked_of new.log) ≡ Some lie) → IsEarly caught (asked_of new.log) → (new.reopened ≡ false → IsCaused new.list caught)
       → Asks a (state_of old) (shown new caught live last kept gave)
   asks_of caught stays early caused = record {
     asked = asked;

@@ -2,7 +2,7 @@
 use Rattle.std.specs.Prelude.{◌≡◌, ◌<◌, ◌+◌, ◌||◌, ℕ, is_none, Bool, true, false, List, Option, Some, None, length}
 use Rattle.std.specs.Ordering.{nat_cmp}
 use Rattle.std.specs.BTreeSet.{contains}
-use Rattle.ob_store.specs.State.{Disturbance, Lie, StoreState}
+use Rattle.ob_store.specs.State.{Disturbance, FalseRead, StoreState}
 use Rattle.ob_store.specs.Calls.{IsQuiet}
 use Rattle.ob_meddle.specs.declared.meddle.Meddle.{Meddle}
 use Rattle.ob_meddle.specs.declared.store.MeddledStore.{MeddledStore}
@@ -64,8 +64,8 @@ pub record Shows (list : List Meddle) (s : StoreState) : Type 0 where
   -- as many calls failed as there are accesses so far that were to fail
   pub counted : s.faults + s.slips ≡ failed_among list (length s.asked)
   -- a read that was asked lies only where an act other than Fail came before it
-  pub asked : (lie : Lie) → s.lie ≡ Some lie → length lie.before < length s.asked
-  pub caused : (lie : Lie) → s.lie ≡ Some lie → has_acted list (length lie.before + 1) ≡ true
+  pub asked : (lie : FalseRead) → s.lie ≡ Some lie → length lie.before < length s.asked
+  pub caused : (lie : FalseRead) → s.lie ≡ Some lie → has_acted list (length lie.before + 1) ≡ true
   -- nothing shows before the first change
   pub quiet : are_later list (length s.asked) ≡ true → IsQuiet s
   -- it says before which accesses they come, and which of them fail

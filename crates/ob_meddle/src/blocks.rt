@@ -7,7 +7,7 @@ use std::alloc::{AllocError, Global};
 /// The longest block that there is, in bytes.
 pub(crate) const LONGEST: usize = 16_416;
 
-/// Blocks of one length, one behind the other.
+/// Blocks of one length, one after the other.
 #[derive(Drop)]
 pub(crate) struct Blocks {
     pub(crate) count: u32,

@@ -174,7 +174,7 @@ impl BlockStore for MeddledStore {
       lied = λ lie is. absurd (cc (is, honest_start m.caught (asked_of m.log) m.early none));
     } };
 
-    fn room(&mut self, n: u64) -> Result<(), NoMemory>
+    fn reserve(&mut self, n: u64) -> Result<(), NoMemory>
         ensures rests { ChangesNothing (state_of self.old) (state_of self.new) }
         ensures spare { OnOk result (n ≤ (state_of self.new).spare) }
         ensures same { self.new.given_up ≡ self.old.given_up }
@@ -182,7 +182,7 @@ impl BlockStore for MeddledStore {
         ensures stays { standing self.new ≡ standing self.old }
         ensures held { held self.new ≡ held self.old }
     {
-        self.log.room(n)
+        self.log.reserve(n)
     }
 
     fn make(&mut self, region: u64, blocks: u32, len: u32) -> Result<(), StoreErr>

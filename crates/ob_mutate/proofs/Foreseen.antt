@@ -186,7 +186,7 @@ none_left columns kept n slots sees few room = go (length n.free - length n.take
         sym (eq_is (length (rows slots)) (length slots) (omega (arith, none, few, room, sees.count, sees.noted, few_rows slots)))
     go false is = sym (eq_other (length (rows slots)) (length slots) (λ same. absurd (cc (is, eq_is (length n.free - length n.taken) 0 (omega (arith, same, few, room, sees.count, sees.noted))))))
 
--- ---- what is foreseen behind it
+-- ---- what is foreseen after it
 pub foresees_next : (columns : Columns) (kept : List (List ℕ)) (n m : NotesState) (row : Row) (slots : Slots) (i : ℕ) → FitsColumns columns row → Foresees columns kept n slots
     → m.free ≡ n.free → m.most ≡ n.most → m.taken ≡ taken_after (insert_answer columns row slots) i n.taken
     → IfSome (key_place columns) (λ place. KnowsSlots columns place kept m.there (inserted_one columns row slots)) → Foresees columns kept m (inserted_one columns row slots)

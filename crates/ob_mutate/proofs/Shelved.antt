@@ -1,4 +1,4 @@
--- The rows that a batch opens: those of a block, and behind them its own.
+-- The rows that a batch opens: those of a block, and after them its own.
 use Rattle.std.proofs.Common.{◌≡◌, ◌≤◌, ◌+◌, ◌-◌, ◌++◌, ℕ, max, List, length, replicate, take, drop, sym, ◌∙◌, ap, subst, arith}
 use Rattle.std.proofs.lemmas.List.{length-replicate, drop-replicate, get_or-replicate}
 use Rattle.ob_room.specs.RoomState.{RoomState, clear}

@@ -15,7 +15,7 @@ use Rattle.ob_mutate.specs.declared.inserting.Inserted.{Inserted}
 use Rattle.ob_mutate.specs.declared.inserting.Inserted.TheVariants.{Done, Duplicate, Full}
 use Rattle.ob_mutate.specs.Inserting.{insert_answer, slots_after}
 
--- what a table's slots are behind each of these rows, and behind all of them
+-- what a table's slots are after each of these rows, and after all of them
 abbrev pub inserted_one : Columns → Row → Slots → Slots
 inserted_one columns row slots = slots_after (insert_answer columns row slots) row slots
 

@@ -19,7 +19,7 @@ use crate::settling::{Former, move_table};
 use ob_base::{Items, NoMemory, Schema};
 use ob_flat::{Flat, OpErr, make_table, scan_blocks, swap_blocks};
 use ob_order::Order;
-use ob_room::{ClearRow, Room};
+use ob_room::{ClearRow, RowBuffer};
 use ob_row::{Cell, encode, kind_at, offset};
 use ob_store::BlockStore;
 use ob_vault::{Order as Turns, Revisions, Vault};
@@ -224,7 +224,7 @@ fn insert_rows<S: BlockStore, R: Revisions>(
 pub fn insert_all<S: BlockStore, R: Revisions>(
     store: &mut S,
     vault: &mut Vault<R>,
-    room: &mut Room,
+    room: &mut RowBuffer,
     alloc: Global,
     order: &mut Order,
     flat: &mut Flat,

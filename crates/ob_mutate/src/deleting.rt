@@ -12,7 +12,7 @@ use crate::rewriting::rewrite;
 use crate::settling::Former;
 use ob_base::Schema;
 use ob_flat::{Change, Flat, OpErr, clear_row};
-use ob_room::{ClearRow, Room};
+use ob_room::{ClearRow, RowBuffer};
 use ob_row::{Malformed, Pred, holds};
 use ob_store::BlockStore;
 use ob_vault::{Revisions, Vault};
@@ -60,7 +60,7 @@ impl<'a> Change for Wipe<'a> {
 pub fn delete<S: BlockStore, R: Revisions>(
     store: &mut S,
     vault: &mut Vault<R>,
-    room: &mut Room,
+    room: &mut RowBuffer,
     flat: &mut Flat,
     pred: &Pred,
     former: Former,

@@ -15,7 +15,7 @@ use crate::searching::{Finds, Search, key_place};
 use crate::settling::{Former, move_table};
 use ob_base::Schema;
 use ob_flat::{Change, Flat, OpErr, make_table, scan_blocks, swap_blocks};
-use ob_room::{ClearRow, Room};
+use ob_room::{ClearRow, RowBuffer};
 use ob_row::{Cell, Malformed, encode, read};
 use ob_store::BlockStore;
 use ob_vault::{Order, Revisions, Vault};
@@ -171,7 +171,7 @@ fn insert_rows<S: BlockStore, R: Revisions>(
 pub fn insert<S: BlockStore, R: Revisions>(
     store: &mut S,
     vault: &mut Vault<R>,
-    room: &mut Room,
+    room: &mut RowBuffer,
     flat: &mut Flat,
     cells: &[Cell],
     former: Former,

@@ -12,7 +12,7 @@ ghost use Rattle.ob_mutate.specs.Mutating.{Rewrites};
 
 use crate::settling::{Former, move_table};
 use ob_flat::{Change, Flat, OpErr, make_table, swap_blocks};
-use ob_room::{ClearRow, Room};
+use ob_room::{ClearRow, RowBuffer};
 use ob_store::BlockStore;
 use ob_vault::{Order, Revisions, Vault};
 
@@ -63,7 +63,7 @@ fn rewrite_rows<S: BlockStore, R: Revisions, C: Change>(
 pub(crate) fn rewrite<S: BlockStore, R: Revisions, C: Change>(
     store: &mut S,
     vault: &mut Vault<R>,
-    room: &mut Room,
+    room: &mut RowBuffer,
     flat: &mut Flat,
     change: &C,
     former: Former,

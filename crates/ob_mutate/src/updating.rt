@@ -14,7 +14,7 @@ use crate::rewriting::rewrite;
 use crate::settling::Former;
 use ob_base::Schema;
 use ob_flat::{Change, Flat, OpErr};
-use ob_room::{ClearRow, Room};
+use ob_room::{ClearRow, RowBuffer};
 use ob_row::{Cell, Malformed, Pred, holds};
 use ob_store::BlockStore;
 use ob_vault::{Revisions, Vault};
@@ -64,7 +64,7 @@ impl<'a> Change for Assign<'a> {
 pub fn update<S: BlockStore, R: Revisions>(
     store: &mut S,
     vault: &mut Vault<R>,
-    room: &mut Room,
+    room: &mut RowBuffer,
     flat: &mut Flat,
     pred: &Pred,
     sets: &[(u8, Cell)],

@@ -27,7 +27,7 @@ use Rattle.ob_oram.specs.declared.op.Op.{Op}
 use Rattle.ob_oram.specs.declared.op.Got.{Got}
 use Rattle.ob_base.specs.Indexes.{path_blocks, rows_open}
 use Rattle.ob_oram.specs.Heights.{AreLeaves}
-use Rattle.ob_oram.specs.Indexes.{IsShaped, IsStored, IsIndex, Lies, SealsIndex, leaves_of, key_of, tree_of, stash_of}
+use Rattle.ob_oram.specs.Indexes.{IsShaped, IsStored, IsIndex, IsStoredAs, SealsIndex, leaves_of, key_of, tree_of, stash_of}
 use Rattle.ob_oram.specs.Ops.{op_in}
 use Rattle.ob_oram.specs.Scripts.{access_in, read_script, write_script, access_script, script_length}
 use Rattle.ob_oram.specs.Halves.{ReadsIndex, RefusesIndex, WritesIndex}
@@ -157,7 +157,7 @@ module _ (index : Index) (op : Op) (draw : ℕ) (old : World) (stored : IsStored
 
     module _ (mid : World) (went : Went (read_script index (leaf_read index op draw)) none old mid) (sealed : SealsAll old mid) where
       -- all was read, and there are too many rows
-      pub ends_full : ((s : State Row) → IsHonest old mid → Lies index s old → Tree.access (key_of index) index.height s (op_in index.capacity op) draw ≡ None)
+      pub ends_full : ((s : State Row) → IsHonest old mid → IsStoredAs index s old → Tree.access (key_of index) index.height s (op_in index.capacity op) draw ≡ None)
           → ReadsTooMany index op draw old mid → LeftBy {T = Got} (Err StashFull) index op draw left → Accesses index left op draw (Err StashFull) old mid
       ends_full full many by = record {
         ok = tt;
@@ -180,7 +180,7 @@ module _ (index : Index) (op : Op) (draw : ℕ) (old : World) (stored : IsStored
       both_sealed r rows new writes = record { seals = λ good fine other. seals_join good old mid new went.lasts.later (sealed.seals good) (writes.seals.seals good fine other) }
 
       -- a write failed
-      pub ends_writing : ((s : State Row) → IsHonest old mid → Lies index s old → Tree.access (key_of index) index.height s (op_in index.capacity op) draw ≡ None → ⊥)
+      pub ends_writing : ((s : State Row) → IsHonest old mid → IsStoredAs index s old → Tree.access (key_of index) index.height s (op_in index.capacity op) draw ≡ None → ⊥)
           → (e : OramErr) (rows : List (List ℕ)) (new : World) → WritesIndex {T = Unit {0}} index leaf rows (Err e) mid new → LeftBy {T = Got} (Err e) index op draw left → Accesses index left op draw (Err e) old new
       ends_writing room e rows new writes by =
           let cut : PassCut OpErrs.Failed (access_script index leaf) (two index.tree index.stash) old new =

@@ -33,7 +33,7 @@ use Rattle.ob_oram.specs.declared.op.Got.{Got}
 use Rattle.ob_oram.specs.declared.op.Got.TheVariants as Gots
 use Rattle.ob_oram.specs.Buffers.{IsBuffer, Places}
 use Rattle.ob_base.specs.Indexes.{path_blocks, leaf_of_draw, rows_open}
-use Rattle.ob_oram.specs.Indexes.{IsShaped, IsMap, Lies, LiesAs, leaves_of, key_of, tree_of, stash_of}
+use Rattle.ob_oram.specs.Indexes.{IsShaped, IsMap, IsStoredAs, LiesAs, leaves_of, key_of, tree_of, stash_of}
 use Rattle.ob_row.specs.Keys.{key_number}
 use Rattle.ob_oram.specs.Opens.{AreKeyed, ServesRows, leaf_with, tree_key}
 use Rattle.ob_oram.specs.Opened.{OpensIndex}
@@ -130,22 +130,22 @@ pub record Arranged (index : Index) (op : Op) (draw : ℕ) (slots served placed 
   pub places : Places (key_of index) (leaf_with index (remap_of index op draw)) (leaf_read index op draw) index.height count served placed done
 
 module _ (index : Index) (op : Op) (draw : ℕ) (fits : FitsOp index.schema index.key op) (shaped : IsShaped index) (slots served placed : Slots) (got : Got) (old mid : World) (reads : Went (read_script index (leaf_read index op draw)) none old mid) where
-  own_lies : (s : State Row) → Lies index s old → Lies index (record { tree = s.tree; stash = s.stash; leaves = leaves_of index }) old
-  own_lies s lies = subst (λ st. Lies index st old) (own_leaves index s old lies.lies) lies
+  own_lies : (s : State Row) → IsStoredAs index s old → IsStoredAs index (record { tree = s.tree; stash = s.stash; leaves = leaves_of index }) old
+  own_lies s lies = subst (λ st. IsStoredAs index st old) (own_leaves index s old lies.lies) lies
 
-  own_open : (done : Bool) → Arranged index op draw slots served placed got done old mid → IsHonest old mid → (s : State Row) → Lies index s old
+  own_open : (done : Bool) → Arranged index op draw slots served placed got done old mid → IsHonest old mid → (s : State Row) → IsStoredAs index s old
       → slots ≡ open_slots index.height (leaf_read index op draw) (record { tree = s.tree; stash = s.stash; leaves = leaves_of index })
   own_open done arranged honest s lies = arranged.opens.told honest s lies ∙ ap (open_slots index.height (leaf_read index op draw)) (own_leaves index s old lies.lies)
 
   -- a row was left over
-  pub told_full : Arranged index op draw slots served placed got false old mid → (s : State Row) → IsHonest old mid → Lies index s old → Tree.access (key_of index) index.height s (op_in index.capacity op) draw ≡ None
+  pub told_full : Arranged index op draw slots served placed got false old mid → (s : State Row) → IsHonest old mid → IsStoredAs index s old → Tree.access (key_of index) index.height s (op_in index.capacity op) draw ≡ None
   told_full arranged s honest lies =
       let own = own_lies s lies in
       subst (λ st. Tree.access (key_of index) index.height st (op_in index.capacity op) draw ≡ None) (sym (own_leaves index s old lies.lies))
       (stops_told index op draw fits shaped s.tree s.stash lies.lies.stash.size own.stands slots served placed got arranged.count false arranged.count_is (own_open false arranged honest s lies) arranged.serves arranged.keyed arranged.places refl)
 
   -- none was
-  pub told_room : Arranged index op draw slots served placed got true old mid → (s : State Row) → IsHonest old mid → Lies index s old → Tree.access (key_of index) index.height s (op_in index.capacity op) draw ≡ None → ⊥
+  pub told_room : Arranged index op draw slots served placed got true old mid → (s : State Row) → IsHonest old mid → IsStoredAs index s old → Tree.access (key_of index) index.height s (op_in index.capacity op) draw ≡ None → ⊥
   told_room arranged s honest lies none =
       let own = own_lies s lies in
       let goes = goes_told index op draw fits shaped s.tree s.stash lies.lies.stash.size own.stands slots served placed got arranged.count true arranged.count_is (own_open true arranged honest s lies) arranged.serves arranged.keyed arranged.places refl in
@@ -155,7 +155,7 @@ module _ (index : Index) (op : Op) (draw : ℕ) (fits : FitsOp index.schema inde
   module _ (arranged : Arranged index op draw slots served placed got true old mid) (rows : List (List ℕ)) (spelt : Spelt index.schema placed rows) (new : World) (writes : WritesIndex {T = Unit {0}} index (leaf_read index op draw) rows (Ok tt) mid new)
       (left : Index) (has : HasLeaves (leaves_after index op draw) index left) where
     -- all was written
-    pub told_answers : IsHonest old new → (s : State Row) → Lies index s old → Answers index left op draw s got new
+    pub told_answers : IsHonest old new → (s : State Row) → IsStoredAs index s old → Answers index left op draw s got new
     told_answers honest s lies =
         let key = key_of index in
         let model = op_in index.capacity op in
@@ -191,7 +191,7 @@ module _ (index : Index) (op : Op) (draw : ℕ) (fits : FitsOp index.schema inde
     told_map honest m is =
         let key = key_of index in
         let model = op_in index.capacity op in
-        let lies : Lies index is.state old = record { lies = is.lies; stands = stands_too key index.height is.state m is.represents } in
+        let lies : IsStoredAs index is.state old = record { lies = is.lies; stands = stands_too key index.height is.state m is.represents } in
         let answers = told_answers honest is.state lies in
         let keys : length is.state.leaves ≡ index.capacity = ap length is.lies.leaves ∙ shaped.leaves.count in
         let laws = access_answers key index.height is.state m model draw answers.went is.represents (keeps_key index op fits) answers.is in
@@ -205,7 +205,7 @@ module _ (index : Index) (op : Op) (draw : ℕ) (fits : FitsOp index.schema inde
           };
         }
 
--- the rows behind it all are as wide as those before
+-- the rows after it all are as wide as those before
 pub still_even : (w : ℕ) (a b d e : List (List ℕ)) → IsBuffer w a → SameSizes a b → SameSizes b d → length e ≡ length d → (IsBuffer w d → IsBuffer w e) → SameSizes a e
 still_even w a b d e even first second count keeps =
     buffer_same w a e (count ∙ second.count ∙ first.count) even (keeps (same_buffer w b d second (same_buffer w a b first even)))

@@ -85,7 +85,7 @@ module _ {R : Type 0} (p : R → Bool) where
       let more = tally_cons x xs in
       omega (arith, rest, more)
 
--- the rows from a slot on, behind those before slot i, may lie at none of some heights
+-- the rows from a slot on, after those before slot i, may lie at none of some heights
 pub record Pile {R : Type 0} (lf : R → ℕ) (leaf height i : ℕ) (now : List (Option R)) : Type 0 where
   pub heights : ℕ
   pub from : ℕ
@@ -118,7 +118,7 @@ piled_first lf leaf height slots = record {
 }
 
 module _ {R : Type 0} (lf : R → ℕ) (leaf height i h : ℕ) (h_is : h ≡ min (i / 4) height) where
-  -- the slot lies at a height of the path, or behind it
+  -- the slot lies at a height of the path, or after it
   at_height : ((h ≡ i / 4) × (i / 4 ≤ height)) ⊎ (h ≡ height)
   at_height = elim (cases_lt height (i / 4)) [
     | inl past ↦ inr (omega (arith, h_is, past))
@@ -136,7 +136,7 @@ module _ {R : Type 0} (lf : R → ℕ) (leaf height i h : ℕ) (h_is : h ≡ min
     | inr past ↦ absurd (cc (get_or_past now k None past, is))
   ]
 
-  -- slot i and one behind it are exchanged
+  -- slot i and one after it are exchanged
   module _ (now : List (Option R)) (q : ℕ) (low : i ≤ q) (high : q < length now) (less : i < length now) where
     abbrev exchanged : List (Option R)
     exchanged = turned None now i q
@@ -237,7 +237,7 @@ module _ {R : Type 0} (lf : R → ℕ) (leaf height i h : ℕ) (h_is : h ≡ min
         absurd (none_left now rooted last stuck.none i here.row (omega arith) below here.is)
   ]
 
--- a row is left behind the last slot
+-- a row is left after the last slot
 pub crowded_end : {R : Type 0} (lf : R → ℕ) (leaf height n i : ℕ) (slots now : List (Option R)) → i ≤ n → n ≤ i → length now ≡ n + 1 → Piled lf leaf height i slots now → (row : R) → get_or now n None ≡ Some row
     → ((row : R) → lies_at lf leaf height row ≡ true) → IsCrowded lf leaf height n (rows slots)
 crowded_end {R} lf leaf height n i slots now most least size piled row is rooted = elim (piled.pile rooted) [

@@ -1,4 +1,4 @@
--- The stash and a path that are read one behind the other.
+-- The stash and a path that are read one after the other.
 use Rattle.std.proofs.Common.{◌≡◌, ◌≢◌, ◌≤◌, ◌<◌, ◌+◌, ◌^◌, inl, inr, ℕ, List, ◌++◌, Option, Some, None, Result, Ok, Err, length, map, get_or, refl, sym, ◌∙◌, ap, subst, arith}
 use Rattle.std.specs.Prelude.{OnOk}
 use Rattle.std.proofs.lemmas.Bool.{lt-ltb}
@@ -32,7 +32,7 @@ use Rattle.ob_oram.specs.declared.held.Remap.{Remap}
 use Rattle.ob_oram.specs.declared.index.Index.{Index}
 use Rattle.ob_oram.specs.declared.walk.Walk.{Walk}
 use Rattle.ob_base.specs.Indexes.{path_blocks, rows_open}
-use Rattle.ob_oram.specs.Indexes.{IsShaped, Lies, key_of, tree_of}
+use Rattle.ob_oram.specs.Indexes.{IsShaped, IsStoredAs, key_of, tree_of}
 use Rattle.ob_oram.specs.Opens.{IsOpen, keyed_slot, last_slot}
 use Rattle.ob_oram.specs.Opened.{OpensIndex}
 use Rattle.ob_oram.specs.Scripts.{access_in, read_script}
@@ -117,7 +117,7 @@ module _ (index : Index) (remap : Remap) (leaf : ℕ) (below : leaf < 2 ^ index.
       ∙ get_or-replicate (rows_open index.height index.slots) (last_slot index) None None (omega arith)
 
   module _ (count : length after ≡ rows_open index.height index.slots) (first : Went (walk_reads index (stash_blocks index)) none old mid) (second : Went (walk_reads index (leaf_blocks index leaf)) none mid new) where
-    all_open : IsHonest old new → (s : State Row) → Lies index s old → after ≡ open_slots index.height leaf s
+    all_open : IsHonest old new → (s : State Row) → IsStoredAs index s old → after ≡ open_slots index.height leaf s
     all_open honest s lies =
         let size : length s.stash ≡ index.slots = lies.lies.stash.size in
         let keys : length s.leaves ≡ index.capacity = ap length lies.lies.leaves ∙ shaped.leaves.count in

@@ -1,4 +1,4 @@
--- A path and the stash that are written one behind the other.
+-- A path and the stash that are written one after the other.
 use Rattle.std.proofs.Common.{◌≡◌, ◌⊎◌, ◌≤◌, ◌<◌, ◌+◌, ◌/◌, ◌^◌, inl, inr, ℕ, true, false, IsTrue, List, ◌++◌, None, Result, Ok, Err, length, map, get_or, sym, ◌∙◌, ap, subst, arith}
 use Rattle.std.specs.List.{All}
 use Rattle.std.proofs.lemmas.Bool.{cases_Bool, cases_lt}
@@ -106,7 +106,7 @@ module _ (index : Index) (leaf : ℕ) (below : leaf < 2 ^ index.height) (rows : 
     both_sealed : (r : Result (Unit {0}) OramErr) (new : World) → WritesWalk index (stash_blocks index) rows r mid new → SealsIndex index old new
     both_sealed r new walk = record { seals = λ good fine other. seals_join good old mid new before.ok.lasts.later (before.seals.seals good fine) (walk.seals.seals good other) }
 
-    -- the slots of the tree behind the writes of the path
+    -- the slots of the tree after the writes of the path
     module _ (tells : IsTrue old.store.tells) (slots : Slots) (spelt : Spelt index.schema slots rows) (s t : State Row) (lies : LiesAs index s old) (lays : LaysOut index.height leaf slots s t) where
       slots_fit : All (FitsSlot index.schema) slots
       slots_fit = spelt_fits index.schema slots rows spelt

@@ -1,10 +1,10 @@
--- The keys of rows behind an operation, and how many of them pass a test.
+-- The keys of rows after an operation, and how many of them pass a test.
 use Rattle.std.proofs.Common.{◌≡◌, ◌<◌, ◌≤◌, ◌+◌, inl, inr, ℕ, zero, suc, Bool, true, false, List, [], ◌∷◌, Option, Some, None, length, get_or, refl, ◌∙◌, ap, arith}
 use Rattle.std.specs.Prelude.{filter, map, not, if◌then◌else◌, ◌==◌, ◌&&◌}
 use Rattle.std.specs.List.{list_any}
 use Rattle.std.proofs.lemmas.Bool.{cases_eq, eq-eqb, false≢true, le-ltb, lt-ltb, ne_eqb, or_left, or_right}
 use Rattle.std.proofs.lemmas.List.{get_or_past}
-use Rattle.ob_path.specs.Rows.{rows, but_firsts}
+use Rattle.ob_path.specs.Rows.{rows, except_firsts}
 use Rattle.ob_oram.specs.Ops.{with_new}
 use Rattle.ob_oram.proofs.Crowding.{counts}
 
@@ -37,21 +37,21 @@ none_any : (k : ℕ) (keys : List ℕ) → NoKey k keys → list_any (λ j. j ==
 none_any k [] none = refl
 none_any k (j ∷ keys) none = let first = none.0 in rw first (none_any k keys none.1)
 
-pub none_but : (k : ℕ) (keys : List ℕ) → NoKey k keys → but_firsts 1 (λ j. j == k) keys ≡ keys
-none_but k [] none = refl
-none_but k (j ∷ keys) none = let first = none.0 in rw first (ap (λ (l : List ℕ). j ∷ l) (none_but k keys none.1))
+pub none_except : (k : ℕ) (keys : List ℕ) → NoKey k keys → except_firsts 1 (λ j. j == k) keys ≡ keys
+none_except k [] none = refl
+none_except k (j ∷ keys) none = let first = none.0 in rw first (ap (λ (l : List ℕ). j ∷ l) (none_except k keys none.1))
 
 -- or one is, and goes
-pub one_but : (p : ℕ → Bool) (k : ℕ) (keys : List ℕ) → list_any (λ j. j == k) keys ≡ true → passing p (but_firsts 1 (λ j. j == k) keys) + counts (p k) ≡ passing p keys
-one_but p k [] any = absurd (false≢true any)
-one_but p k (j ∷ keys) any = elim (cases_eq j k) [
+pub one_except : (p : ℕ → Bool) (k : ℕ) (keys : List ℕ) → list_any (λ j. j == k) keys ≡ true → passing p (except_firsts 1 (λ j. j == k) keys) + counts (p k) ≡ passing p keys
+one_except p k [] any = absurd (false≢true any)
+one_except p k (j ∷ keys) any = elim (cases_eq j k) [
   | inl same ↦
       let test = eq-eqb j k same in
       rw test (omega (arith, passing_cons p j keys, ap (λ (n : ℕ). counts (p n)) same))
   | inr off ↦
       let test = ne_eqb j k off in
-      let rest = one_but p k keys (rw test at any) in
-      rw test (omega (arith, rest, passing_cons p j (but_firsts 1 (λ i. i == k) keys), passing_cons p j keys))
+      let rest = one_except p k keys (rw test at any) in
+      rw test (omega (arith, rest, passing_cons p j (except_firsts 1 (λ i. i == k) keys), passing_cons p j keys))
 ]
 
 -- a key that is put in

@@ -30,7 +30,7 @@ module _ (d : ℕ → ℕ) (h n : ℕ) where
         ∙ ap (leaf_at h d) (sym (get_or_past given k next past))
   ]
 
-  -- an access that was carried out gives the key its own, and behind another there is none
+  -- an access that was carried out gives the key its own, and after another there is none
   after : (index left : Index) (op : Op) (draw next : ℕ) (given : List ℕ) (r : Result Got OramErr) (old new : World) (steps : List Step)
       → index.height ≡ h → index.capacity ≡ n → draw ≡ d next → leaves_of index ≡ map (leaf_at h d) given → Accesses index left op draw r old new → AreAccesses left steps
       → (left.height ≡ h → left.capacity ≡ n → leaves_of left ≡ map (leaf_at h d) (set given (key_number n (key_of_op op)) next)

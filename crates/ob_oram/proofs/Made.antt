@@ -22,7 +22,7 @@ use Rattle.ob_tree.proofs.PlaceLemmas.{stands_too}
 use Rattle.ob_oram.specs.declared.index.Index.{Index}
 use Rattle.ob_oram.specs.Keys.{IsIntKey}
 use Rattle.ob_base.specs.Indexes.{IsHeight, leaf_of_draw, rows_open, tree_blocks}
-use Rattle.ob_oram.specs.Indexes.{IsIndex, IsMap, Lies, leaves_of, key_of, tree_of, stash_of}
+use Rattle.ob_oram.specs.Indexes.{IsIndex, IsMap, IsStoredAs, leaves_of, key_of, tree_of, stash_of}
 use Rattle.ob_oram.specs.Creating.{IsFresh, MadeRegions, CreatesRegions, new_tree, new_stash}
 use Rattle.ob_oram.proofs.Heights.{blocks_few, blocks_some}
 use Rattle.ob_oram.proofs.Creates.{one_each}
@@ -101,7 +101,7 @@ module _ (index : Index) (columns : Columns) (capacity slots next : ℕ) (draws 
     buffer = buffer ∙ ap (rows_open index.height) (sym fresh.has_slots);
   }
 
-  pub made_lies : IsTrue old.store.tells → Lies index (created index.height slots (leaves_of index)) new
+  pub made_lies : IsTrue old.store.tells → IsStoredAs index (created index.height slots (leaves_of index)) new
   made_lies tells = record {
     lies = record {
       tree = subst (λ (f : Flat). Represents 1 f (empty_slots (tree_blocks index.height)) new) tree_is (regions.told tells).0;

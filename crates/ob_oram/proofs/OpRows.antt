@@ -18,7 +18,7 @@ use Rattle.ob_row.proofs.SpellingLemmas.{row_bytes-begin, zeros-begin}
 use Rattle.ob_row.proofs.BagLemmas.{Same-refl, Same-trans}
 use Rattle.ob_flat.proofs.Rows.{row_is}
 use Rattle.ob_path.specs.Access as Tree
-use Rattle.ob_path.specs.Rows.{rows, list_of, but_firsts}
+use Rattle.ob_path.specs.Rows.{rows, list_of, except_firsts}
 use Rattle.ob_tree.specs.Runs.{KeepsKey}
 use Rattle.ob_tree.proofs.ServeLemmas.{rows-set_some, set_none-empty, applied_found, answer_found, applied_absent, answer_absent, applied_past, answer_past}
 use Rattle.ob_oram.specs.declared.held.Held.{Held}
@@ -34,7 +34,7 @@ use Rattle.ob_row.specs.Keys.{key_number, cell_number}
 use Rattle.ob_oram.specs.Opens.{AreKeyed, IsOpen, OpensRow, ServesRows, leaf_with, leaves_with, tree_key}
 use Rattle.ob_oram.specs.Ops.{FitsOp, FitsSet, key_of_op, op_in, got_in, keys_behind, with_new}
 use Rattle.ob_oram.proofs.Crowding.{counts, tally_set, weigh}
-use Rattle.ob_oram.proofs.KeysBehind.{any_there, new_none, new_past, new_there, none_but, none_there, one_but, passing, passing_cons, passing_keys}
+use Rattle.ob_oram.proofs.KeysBehind.{any_there, new_none, new_past, new_there, none_except, none_there, one_except, passing, passing_cons, passing_keys}
 use Rattle.ob_oram.proofs.WalkReads.{open_set}
 
 -- a cell elsewhere leaves that of the key
@@ -110,7 +110,7 @@ module _ (index : Index) (slots : Slots) where
   serves_absent (Insert key cells) not within absent = absurd (not key cells refl)
   serves_absent (Change key sets) not within absent = serves_as (Change key sets) within absent refl refl refl
   serves_absent (Remove key) not within absent = serves_as (Remove key) within absent refl refl
-      (none_but (key_number index.capacity key) keys (none_there (key_of index) (key_number index.capacity key) slots absent))
+      (none_except (key_number index.capacity key) keys (none_there (key_of index) (key_number index.capacity key) slots absent))
 
   pub serves_insert : (key : ℤ) (cells : Bor (List Cell)) (last : ℕ) → last < length slots → get_or slots last None ≡ None → tree_key index (Insert key cells) < index.capacity → Absent (Insert key cells)
       → tree_key index (Insert key cells) ≡ key_number index.capacity key → ServesRows index (Insert key cells) slots (set slots last (Some cells.now)) Gots.Done
@@ -168,13 +168,13 @@ module _ (index : Index) (slots : Slots) (i : ℕ) (row : Row) (is : get_or slot
 
   -- or none
   one_less : (p : ℕ → Bool) (k : ℕ) → key_of index row ≡ k → i < length slots
-      → length (filter (λ (r : Row). p (key_of index r)) (rows (set slots i None))) ≡ passing p (but_firsts 1 (λ j. j == k) (map (key_of index) (rows slots)))
+      → length (filter (λ (r : Row). p (key_of index r)) (rows (set slots i None))) ≡ passing p (except_firsts 1 (λ j. j == k) (map (key_of index) (rows slots)))
   one_less p k mine inside =
       let q : Row → Bool = λ r. p (key_of index r) in
       let changed = tally_set q slots i None inside in
       let here : weigh q (get_or slots i None) ≡ counts (p k) = ap (weigh q) is ∙ ap (λ (j : ℕ). counts (p j)) mine in
       let none : weigh q None ≡ 0 = refl in
-      let one = one_but p k (map (key_of index) (rows slots)) (any_there (key_of index) k slots i row is mine) in
+      let one = one_except p k (map (key_of index) (rows slots)) (any_there (key_of index) k slots i row is mine) in
       omega (arith, changed, here, none, one, passing_keys (key_of index) p (rows slots))
 
   keys_found : (op : Op) → i < length slots → key_of index row ≡ key_number index.capacity (key_of_op op)
@@ -215,7 +215,7 @@ module _ (index : Index) (slots : Slots) (i : ℕ) (row : Row) (is : get_or slot
         subst (Begins index.schema (Some row)) (sym (row_is list i d (omega (arith, inside, opened.sees.same))))
         (subst (λ s. Begins index.schema s (row_at list i)) is (opened.sees.begins i inside))
 
-    -- or is changed, but for its key
+    -- or is changed, except for its key
     pub opens_changed : (new : Row) (bytes : List ℕ) → key_of index new ≡ key_of index row → Begins index.schema (Some new) bytes → IsOpen index remap (set slots i (Some new)) buffer (set list i bytes)
     opens_changed new bytes same begins =
         let held : get_or buffer i None ≡ option_map (held_of (key_of index) (leaf_with index remap)) (Some new) =
@@ -239,7 +239,7 @@ module _ (index : Index) (slots : Slots) (keyed : AreKeyed index slots) where
   stand_past (Change key sets) past = refl
   stand_past (Remove key) past =
       let k = key_number index.capacity key in
-      none_but k (map (key_of index) (rows slots)) (none_there (key_of index) k slots (λ j row is same. absurd (omega (arith, keyed.within j row is, same, past))))
+      none_except k (map (key_of index) (rows slots)) (none_there (key_of index) k slots (λ j row is same. absurd (omega (arith, keyed.within j row is, same, past))))
 
   pub serves_past : (op : Op) → index.capacity ≤ tree_key index op → tree_key index op ≡ key_number index.capacity (key_of_op op) → ServesRows index op slots slots Gots.OutOfRange
   serves_past op past named = record {

@@ -129,7 +129,7 @@ module _ (columns : Columns) (key lf : Row → ℕ) (slots : Slots) (buffer : Li
         moved = record { is = refl; none = whole; each = λ k low high. has_row slots k (get_or slots k None) refl (some k low high) };
       }
 
--- behind the last slot
+-- after the last slot
 module _ (key lf : Row → ℕ) (leaf height n i : ℕ) (slots now : Slots) (most : i ≤ n) (least : n ≤ i) (go : Single key (rows slots) → Going key lf leaf height n i slots now) where
   whole : Single key (rows slots) → Going key lf leaf height n n slots now
   whole single = let last : i ≡ n = omega (arith, most, least) in subst (λ (k : ℕ). Going key lf leaf height n k slots now) last (go single)

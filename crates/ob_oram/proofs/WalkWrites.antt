@@ -121,7 +121,7 @@ module _ (index : Index) (walk : Walk) (c : ℕ) (shaped : IsShaped index) (is :
       told = tt;
     }
 
--- the place that is in turn behind c blocks: any in a tree
+-- the place that is in turn after c blocks: any in a tree
 pub next_place : Walk → ℕ → ℕ
 next_place (Stash slots height) c = if c == slots then 0 else c
 next_place (Path height leaf) c = 0
@@ -140,7 +140,7 @@ place_apart : (walk : Walk) (index : Index) (c d : ℕ) → IsWalkOf index walk 
 place_apart (Stash slots height) index c d is less within = λ same. absurd (omega (arith, less, same))
 place_apart (Path height leaf) index c d is less within = λ same. absurd (omega (arith, same, path_place_apart height leaf is.1 c d less within))
 
--- each place of a tree is in turn, and the first place of a stash behind its last
+-- each place of a tree is in turn, and the first place of a stash after its last
 first_in_turn : (index : Index) (walk : Walk) (w : World) → IsInTurn (order_in walk) 1 (table_in index walk) 0 w → IsInTurn (order_in walk) 1 (table_in index walk) (next_place walk 0) w
 unfolding next_place
 first_in_turn index (Stash slots height) w is = subst (λ p. IsInTurn Round 1 (table_in index (Stash slots height)) p w) (sym (first_place slots)) is

@@ -25,7 +25,7 @@ use Rattle.ob_row.specs.Keys.{key_number}
 use Rattle.ob_oram.specs.Buffers.{IsCrowded}
 use Rattle.ob_base.specs.Indexes.{leaf_of_draw, rows_open}
 use Rattle.ob_oram.specs.Ops.{key_of_op, op_in, got_in, keys_behind}
-use Rattle.ob_oram.specs.Indexes.{IsEnded, IsIndex, IsMap, IsStored, Lies, LiesAs, SealsIndex, leaves_of, key_of, tree_of, stash_of}
+use Rattle.ob_oram.specs.Indexes.{IsEnded, IsIndex, IsMap, IsStored, IsStoredAs, LiesAs, SealsIndex, leaves_of, key_of, tree_of, stash_of}
 use Rattle.ob_oram.specs.Opens.{AreKeyed, last_slot, leaves_with}
 use Rattle.ob_oram.specs.Opened.{OpensIndex}
 use Rattle.ob_oram.specs.Scripts.{read_script, access_script}
@@ -76,7 +76,7 @@ pub record StopsReading (e : OpErr) (index left : Index) (leaf : ℕ)
   pub cut : PassCut e (read_script index leaf) none old new
   pub stays : IndexStays index left old new
 
--- an access that ended with one of its writes, behind all reads
+-- an access that ended with one of its writes, after all reads
 pub record StopsWriting (index left : Index) (leaf : ℕ) (old new : World) : Type 0 where
   pub cut : PassCut OpErrs.Failed (access_script index leaf) (two index.tree index.stash) old new
   pub past : length old.store.asked + length (read_script index leaf) < length new.store.asked
@@ -103,7 +103,7 @@ pub record Answers (index left : Index) (op : Op) (draw : ℕ) (s : State Row) (
   pub went : Tree.Went Row
   pub is : Tree.access (key_of index) index.height s (op_in index.capacity op) draw ≡ Some went
   pub answer : got_in got ≡ went.got
-  pub lies : Lies left went.state new
+  pub lies : IsStoredAs left went.state new
 
 -- it answers what the map answers, and stands for the map after that
 pub record AnswersMap (index left : Index) (op : Op) (m : ℕ → Option Row) (got : Got)
@@ -111,7 +111,7 @@ pub record AnswersMap (index left : Index) (op : Op) (m : ℕ → Option Row) (g
   pub answer : got_in got ≡ map_answer (key_of index) index.capacity (op_in index.capacity op) m
   pub map : IsMap left (map_after (key_of index) index.capacity (op_in index.capacity op) m) new
 
--- more rows with keys of the index were read than fit: behind the operation more may lie at none of some heights of the
+-- more rows with keys of the index were read than fit: after the operation more may lie at none of some heights of the
 -- path than there are slots above these and in the stash
 pub record ReadsTooMany (index : Index) (op : Op) (draw : ℕ) (old new : World) : Type 0 where
   pub slots : Slots
@@ -129,7 +129,7 @@ pub record Accesses (index left : Index) (op : Op) (draw : ℕ)
   pub seals : SealsIndex index old new
   pub leaves : OnOk result (HasLeaves (leaves_after index op draw) index left)
   pub stands : OnOk result (IsIndex left new)
-  -- behind a stop it isn't accessed again: the key has the leaf that was read, and another access would read the same
+  -- after a stop it isn't accessed again: the key has the leaf that was read, and another access would read the same
   -- path, from which a watcher could tell that the two are of one key
   pub ended : OnErr result (IsEnded left)
   -- the key is none of the index
@@ -140,11 +140,11 @@ pub record Accesses (index left : Index) (op : Op) (draw : ℕ)
   -- whatever was read, it stops at a full stash only where there are too many rows
   pub full : result ≡ Err StashFull → ReadsTooMany index op draw old new
   -- and where no read lied exactly where the model does
-  pub told : IsHonest old new → (s : State Row) → Lies index s old → MatchResult result
+  pub told : IsHonest old new → (s : State Row) → IsStoredAs index s old → MatchResult result
       (λ got. Answers index left op draw s got new)
       (λ e. (e ≡ Failed) ⊎ ((e ≡ StashFull)
       × (Tree.access (key_of index) index.height s (op_in index.capacity op) draw ≡ None)))
   -- where the model's stash is full no write is asked, also where the store fails
-  pub room : IsHonest old new → (s : State Row) → Lies index s old
+  pub room : IsHonest old new → (s : State Row) → IsStoredAs index s old
       → Tree.access (key_of index) index.height s (op_in index.capacity op) draw ≡ None
       → AsksReads index old new

@@ -45,7 +45,7 @@ pub record HasRow {R : Type 0} (slots : List (Option R)) (place : ℕ) : Type 0 
   pub row : R
   pub is : slice_index_or slots place None ≡ Some row
 
--- slot i and one behind it were exchanged: that had a row, or none from slot i on may lie at the height
+-- slot i and one after it were exchanged: that had a row, or none from slot i on may lie at the height
 pub record Turns {R : Type 0} (lf : R → ℕ) (leaf height i : ℕ)
     (slots after : List (Option R)) : Type 0 where
   pub place : ℕ
@@ -75,7 +75,7 @@ abbrev pub lies_above : {R : Type 0} → (R → ℕ) → ℕ → ℕ → R → B
 lies_above lf leaf zero row = true
 lies_above lf leaf (suc height) row = not (lies_at lf leaf height row)
 
--- more rows may lie at none of some heights than there are slots, of n, behind those of these heights
+-- more rows may lie at none of some heights than there are slots, of n, after those of these heights
 pub record IsCrowded {R : Type 0} (lf : R → ℕ) (leaf height n : ℕ) (list : List R) : Type 0 where
   pub heights : ℕ
   pub within : heights ≤ height + 1

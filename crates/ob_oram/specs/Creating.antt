@@ -16,7 +16,7 @@ use Rattle.ob_flat.specs.Creates.{table_of, make_script, create_script}
 use Rattle.ob_tree.specs.Runs.{created}
 use Rattle.ob_oram.specs.declared.index.Index.{Index}
 use Rattle.ob_base.specs.Indexes.{IsHeight, tree_blocks, leaf_of_draw}
-use Rattle.ob_oram.specs.Indexes.{IsIndex, IsMap, Lies, leaves_of}
+use Rattle.ob_oram.specs.Indexes.{IsIndex, IsMap, IsStoredAs, leaves_of}
 
 -- the tables that an index has when it is made in a vault whose next region has this number
 abbrev pub new_tree : (columns : Columns) (height region : ℕ) → Flat
@@ -29,7 +29,7 @@ new_stash columns slots region = table_of columns slots (region + 1)
 abbrev pub create_index_script : (tree stash : Flat) → List Access
 create_index_script tree stash = create_script 1 tree ++ create_script 1 stash
 
--- a first part of y was asked behind all of x
+-- a first part of y was asked after all of x
 pub record BeganBehind (x y : List Access) (old new : StoreState) : Type 0 where
   pub done : List Access
   pub rest : List Access
@@ -77,6 +77,6 @@ pub record CreatesIndex (columns : Columns) (capacity slots : ℕ) (draws : List
   pub fresh : IfOk result (IsFresh columns capacity slots old.vault.next draws)
   pub index : IfOk result (λ index. IsIndex index new)
   pub told : IfOk result (λ index. IsTrue old.store.tells
-      → Lies index (created index.height slots (leaves_of index)) new)
+      → IsStoredAs index (created index.height slots (leaves_of index)) new)
   -- which stands for the map that has no row
   pub empty : IfOk result (λ index. IsTrue old.store.tells → IsMap index (λ k. None) new)

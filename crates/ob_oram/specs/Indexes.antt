@@ -67,7 +67,7 @@ pub record LiesAs (index : Index) (s : State Row) (w : World) : Type 0 where
   pub leaves : s.leaves ≡ leaves_of index
 
 -- its keys are distinct and in range, and each row lies on the path of its leaf or in the stash
-pub record Lies (index : Index) (s : State Row) (w : World) : Type 0 where
+pub record IsStoredAs (index : Index) (s : State Row) (w : World) : Type 0 where
   pub lies : LiesAs index s w
   pub stands : Stands (key_of index) index.height s
 

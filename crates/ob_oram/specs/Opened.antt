@@ -10,7 +10,7 @@ use Rattle.ob_tree.specs.Slotwise.{open_slots}
 use Rattle.ob_path.specs.States.{State}
 use Rattle.ob_oram.specs.declared.index.Index.{Index}
 use Rattle.ob_base.specs.Indexes.{path_blocks, rows_open}
-use Rattle.ob_oram.specs.Indexes.{Lies, LiesAs}
+use Rattle.ob_oram.specs.Indexes.{IsStoredAs, LiesAs}
 use Rattle.ob_oram.specs.Opens.{keyed_slot, last_slot}
 use Rattle.ob_oram.specs.Walking.{OpensFirst}
 use Rattle.ob_oram.specs.Halves.{leaf_blocks, stash_blocks}
@@ -38,5 +38,5 @@ pub record OpensIndex (index : Index) (leaf : ℕ) (slots : Slots) (old new : Wo
   pub blocks : OpensBlocks index leaf slots old new
   pub lying : IsHonest old new → (s : State Row) → LiesAs index s old
       → OpensSlots index leaf slots s
-  pub told : IsHonest old new → (s : State Row) → Lies index s old
+  pub told : IsHonest old new → (s : State Row) → IsStoredAs index s old
       → slots ≡ open_slots index.height leaf s

@@ -12,7 +12,7 @@ use Rattle.ob_oram.specs.declared.op.Op.TheVariants.{Get, Insert, Change, Remove
 use Rattle.ob_oram.specs.declared.op.Got.{Got}
 use Rattle.ob_oram.specs.declared.op.Got.TheVariants as Gots
 use Rattle.ob_row.specs.Keys.{key_number}
-use Rattle.ob_path.specs.Rows.{but_firsts}
+use Rattle.ob_path.specs.Rows.{except_firsts}
 
 abbrev pub key_of_op : Op → ℤ
 key_of_op (Get key) = key
@@ -24,12 +24,12 @@ key_of_op (Remove key) = key
 abbrev pub with_new : (n k : ℕ) → List ℕ → List ℕ
 with_new n k keys = if not (list_any (λ j. j == k) keys) && nat_lt k n then k ∷ keys else keys
 
--- the keys of rows behind the operation
+-- the keys of rows after the operation
 abbrev pub keys_behind : ℕ → Op → List ℕ → List ℕ
 keys_behind n (Get key) keys = keys
 keys_behind n (Insert key cells) keys = with_new n (key_number n key) keys
 keys_behind n (Change key sets) keys = keys
-keys_behind n (Remove key) keys = but_firsts 1 (λ j. j == key_number n key) keys
+keys_behind n (Remove key) keys = except_firsts 1 (λ j. j == key_number n key) keys
 
 -- the operation on a map from n keys to rows
 abbrev pub op_in : ℕ → Op → Tree.Op Row

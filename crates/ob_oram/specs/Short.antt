@@ -3,7 +3,7 @@ use Rattle.std.specs.Prelude.{◌≡◌, ◌≢◌, ◌⊎◌, ◌<◌, ◌≤�
 use Rattle.ob_base.specs.Counts.{Rises}
 use Rattle.ob_store.specs.Runs.{Began}
 use Rattle.ob_vault.specs.State.{World}
-use Rattle.ob_vault.specs.Tied.{Calm, EndsAt}
+use Rattle.ob_vault.specs.Tied.{Untampered, EndsAt}
 use Rattle.ob_vault.specs.Calls.{Lasts, EndsRead, two}
 use Rattle.ob_oram.specs.declared.index.Index.{Index}
 use Rattle.ob_oram.specs.declared.fault.OramErr.{OramErr}
@@ -13,11 +13,11 @@ use Rattle.ob_oram.specs.Scripts.{access_script}
 
 -- why it gave up: the store failed, the block that was read last is another, or the stash is full
 abbrev pub ShortCause : OramErr → World → World → Type 0
-ShortCause Failed old new = Rises old.store.faults new.store.faults × (Calm old → Calm new)
+ShortCause Failed old new = Rises old.store.faults new.store.faults × (Untampered old → Untampered new)
 ShortCause (Tampered q x) old new =
     (new.store.faults ≡ old.store.faults) × EndsRead q x new
-    × (Calm old → Calm new ⊎ EndsAt q x new)
-ShortCause StashFull old new = (new.store.faults ≡ old.store.faults) × (Calm old → Calm new)
+    × (Untampered old → Untampered new ⊎ EndsAt q x new)
+ShortCause StashFull old new = (new.store.faults ≡ old.store.faults) × (Untampered old → Untampered new)
 
 -- no more was asked than the reads of an access
 abbrev pub AsksReads : Index → World → World → Type 0

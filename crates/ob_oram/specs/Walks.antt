@@ -14,7 +14,7 @@ abbrev pub place_in : Walk → ℕ → ℕ
 place_in (Stash slots height) c = c
 place_in (Path height leaf) c = path_place height leaf c
 
--- the slots of a path lie in the buffer from the leaf up, and behind them those of the stash
+-- the slots of a path lie in the buffer from the leaf up, and after them those of the stash
 abbrev pub slot_in : Walk → ℕ → ℕ
 slot_in (Stash slots height) c = path_blocks height + c
 slot_in (Path height leaf) c = path_slot height c

@@ -29,7 +29,7 @@ use crate::reading::read_walk;
 use crate::serving::serve;
 use crate::walk::Walk;
 use crate::writing::write_walk;
-use ob_room::{ClearRow, Room};
+use ob_room::{ClearRow, RowBuffer};
 use ob_store::BlockStore;
 use ob_vault::{Revisions, Vault};
 use std::mem;
@@ -227,7 +227,7 @@ fn access_open<S: BlockStore, R: Revisions>(
 pub fn access<S: BlockStore, R: Revisions>(
     store: &mut S,
     vault: &mut Vault<R>,
-    room: &mut Room,
+    room: &mut RowBuffer,
     index: &mut Index,
     op: &Op<'_>,
     draw: u64,

@@ -21,7 +21,7 @@ use crate::held::Held;
 use crate::index::Index;
 use ob_base::{Column, Schema, tree_height};
 use ob_flat::{OpErr, fill_blocks, make_table};
-use ob_room::{ClearRow, Room};
+use ob_room::{ClearRow, RowBuffer};
 use ob_row::width;
 use ob_store::BlockStore;
 use ob_vault::{Order, Region, Revisions, Vault};
@@ -227,7 +227,7 @@ pub fn create<S: BlockStore, R: Revisions>(
     alloc: Global,
     store: &mut S,
     vault: &mut Vault<R>,
-    room: &mut Room,
+    room: &mut RowBuffer,
     schema: &Schema,
     capacity: u32,
     stash: u32,

@@ -4,7 +4,7 @@ ghost use Rattle.std.specs.List.{AllPairs};
 ghost use Rattle.ob_base.specs.declared.access.Access.{Access};
 ghost use Rattle.ob_row.specs.Rows.{Row};
 ghost use Rattle.ob_script.specs.Parts.{access_part};
-ghost use Rattle.ob_store.specs.State.{Lie};
+ghost use Rattle.ob_store.specs.State.{FalseRead};
 ghost use Rattle.ob_tree.specs.Runs.{draws_read, leaf_at};
 ghost use Rattle.ob_tree.specs.Scripts.{numbers};
 ghost use Rattle.ob_path.specs.States.{State};
@@ -45,7 +45,7 @@ pub fn access_short()
 
 /// A changed block that an access has read is one of its reads, which come before all writes.
 pub fn access_begun()
-    ensures { (lie : Lie) (index : AnIndex) (leaf : ℕ) (before : List Access)
+    ensures { (lie : FalseRead) (index : AnIndex) (leaf : ℕ) (before : List Access)
         → ReadsIn lie (before ++ access_script index leaf)
         → ReadsIn lie (before ++ read_script index leaf) }
 {}

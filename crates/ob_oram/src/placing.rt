@@ -96,7 +96,7 @@ fn step(
 
 /// Puts the rows of a buffer into the slots of a leaf's path, from the leaf up, and then into those of the stash, in
 /// place: each slot takes the row of the least key that may lie in it, among those left. The buffer has `n` slots,
-/// 4 for each height from 0 to `height` and the stash's behind them, and one more, for a row that is put in. False
+/// 4 for each height from 0 to `height` and the stash's after them, and one more, for a row that is put in. False
 /// where a row is left for which there is no slot.
 pub fn place(
     buffer: &mut [Option<Held>],

@@ -11,7 +11,7 @@ use crate::shown::{put_answer, put_asked, put_asking};
 use crate::steps::{Head, Step, head_of, steps_of};
 use ob_meddle::{Meddle, MeddledStore};
 use ob_oram::{Index, Op, discard};
-use ob_room::Room;
+use ob_room::RowBuffer;
 use ob_store::BlockStore;
 use ob_vault::{Revisions, Vault};
 use std::alloc::Global;
@@ -21,7 +21,7 @@ fn take_step<S: BlockStore, R: Revisions>(
     out: &mut String,
     store: &mut S,
     vault: &mut Vault<R>,
-    room: &mut Room,
+    room: &mut RowBuffer,
     index: &mut Index,
     step: Step,
 ) -> Result<(), Fault>
@@ -46,7 +46,7 @@ fn take_steps<S: BlockStore, R: Revisions>(
     out: &mut String,
     store: &mut S,
     vault: &mut Vault<R>,
-    room: &mut Room,
+    room: &mut RowBuffer,
     index: &mut Index,
     steps: &[Step],
 ) -> Result<(), Fault>
@@ -87,7 +87,7 @@ fn served<S: BlockStore, R: Revisions>(
     out: &mut String,
     store: &mut S,
     vault: &mut Vault<R>,
-    room: &mut Room,
+    room: &mut RowBuffer,
     index: &mut Index,
     steps: &[Step],
 ) -> Result<(), Fault>
@@ -115,7 +115,7 @@ fn session<S: BlockStore, R: Revisions>(
     out: &mut String,
     store: &mut S,
     vault: &mut Vault<R>,
-    room: &mut Room,
+    room: &mut RowBuffer,
     mut index: Index,
     steps: &[Step],
     drops: bool,

@@ -34,7 +34,7 @@ use crate::places::put_places;
 use crate::runs::{beside_map, full_load, turns};
 use crate::sessions::new_index;
 use ob_oram::Index;
-use ob_room::Room;
+use ob_room::RowBuffer;
 use ob_store::{BlockStore, MemStore};
 use ob_vault::{BaseRevs, Revisions, Vault};
 use rand_chacha::ChaCha20Rng;
@@ -115,7 +115,7 @@ fn do_accesses<H: Input + Print + AllocGlobal, S: BlockStore, R: Revisions>(
     host: &H,
     store: &mut S,
     vault: &mut Vault<R>,
-    room: &mut Room,
+    room: &mut RowBuffer,
     index: &mut Index,
     rng: &mut ChaCha20Rng,
     case: Case,
@@ -136,7 +136,7 @@ fn drawn_index(
     store: &mut MemStore,
     rng: &mut ChaCha20Rng,
     case: Case,
-) -> Result<(Vault<BaseRevs>, Room, Index), Fault>
+) -> Result<(Vault<BaseRevs>, RowBuffer, Index), Fault>
     requires { (⟦<MemStore as BlockStore>⟧.state store.old).asked ≡ [] }
     ensures { IfOk result (λ new. IsSession new.1 new.2
         (at ⟦<BaseRevs as Revisions>⟧.state new.0 (⟦<MemStore as BlockStore>⟧.state store.new))) }

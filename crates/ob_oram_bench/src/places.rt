@@ -2,14 +2,14 @@
 use crate::fault::Fault;
 use crate::number;
 use ob_oram::{Held, place};
-use ob_room::Room;
+use ob_room::RowBuffer;
 use std::alloc::{AllocError, Global};
 use std::str::SplitAsciiWhitespace;
 
 /// The most rows of a buffer.
 const MOST: usize = 64;
 
-// A key, and the leaf that it is under behind a point; `-` is no row.
+// A key, and the leaf that it is under after a point; `-` is no row.
 fn held_of(word: &str) -> Option<Held> {
     let (key, leaf) = word.split_once('.')?;
     let key = key.parse::<u32>().ok()?;
@@ -37,7 +37,7 @@ fn put_buffer(out: &mut String, buffer: &[Option<Held>]) -> Result<(), AllocErro
     Ok(())
 }
 
-// Places a buffer on the path of a leaf, in a tree of a height, and behind it in the stash but for the last slot.
+// Places a buffer on the path of a leaf, in a tree of a height, and after it in the stash except for the last slot.
 fn placed(
     alloc: Global,
     buffer: &mut [Option<Held>],
@@ -48,7 +48,7 @@ fn placed(
     if n < 1 || n > MOST || height >= 32 {
         return Err(Fault::Usage);
     }
-    let Ok(mut room) = Room::new(alloc, n as u32, 17, 1) else {
+    let Ok(mut room) = RowBuffer::new(alloc, n as u32, 17, 1) else {
         return Err(Fault::NoMemory);
     };
     let rows = room.open(n as u32);

@@ -6,7 +6,7 @@ use crate::fault::Fault;
 use crate::rows::text_of;
 use crate::sessions::{Ask, ask_key};
 use ob_oram::{Got, Index, OramErr};
-use ob_room::Room;
+use ob_room::RowBuffer;
 use ob_row::Cell;
 use ob_store::BlockStore;
 use ob_vault::{Revisions, Vault};
@@ -29,7 +29,7 @@ fn drawn_below(rng: &mut ChaCha20Rng, n: u32) -> u32 {
 pub(crate) fn turns<S: BlockStore, R: Revisions>(
     store: &mut S,
     vault: &mut Vault<R>,
-    room: &mut Room,
+    room: &mut RowBuffer,
     index: &mut Index,
     rng: &mut ChaCha20Rng,
     count: u32,
@@ -122,7 +122,7 @@ pub(crate) fn beside_map<S: BlockStore, R: Revisions>(
     alloc: Global,
     store: &mut S,
     vault: &mut Vault<R>,
-    room: &mut Room,
+    room: &mut RowBuffer,
     index: &mut Index,
     rng: &mut ChaCha20Rng,
     count: u32,
@@ -161,7 +161,7 @@ fn loading(rng: &mut ChaCha20Rng, capacity: u32, i: u64) -> (i64, Ask) {
 pub(crate) fn full_load<S: BlockStore, R: Revisions>(
     store: &mut S,
     vault: &mut Vault<R>,
-    room: &mut Room,
+    room: &mut RowBuffer,
     index: &mut Index,
     rng: &mut ChaCha20Rng,
     count: u32,

@@ -10,7 +10,7 @@ ghost use Rattle.ob_oram_bench.specs.Sessions.{IsSession};
 use crate::fault::Fault;
 use crate::rows::{schema_of, text_of};
 use ob_oram::{Got, Index, Op, access, create};
-use ob_room::Room;
+use ob_room::RowBuffer;
 use ob_row::Cell;
 use ob_seal::Keys;
 use ob_store::BlockStore;
@@ -32,7 +32,7 @@ pub(crate) fn make_room<S: BlockStore>(store: &mut S, n: u64) -> Result<(), Faul
     ensures spare { OnOk result (n ≤ (S.state store.new).spare) }
     ensures few { OnOk result (length (S.state store.new).asked < 2 ^ 59) }
 {
-    if store.room(n).is_err() || store.count() >= 1 << 59 {
+    if store.reserve(n).is_err() || store.count() >= 1 << 59 {
         return Err(Fault::NoMemory);
     }
     Ok(())
@@ -44,7 +44,7 @@ fn made<S: BlockStore, R: Revisions>(
     alloc: Global,
     store: &mut S,
     vault: &mut Vault<R>,
-    room: &mut Room,
+    room: &mut RowBuffer,
     bytes: u32,
     slots: u32,
     draws: &[u64],
@@ -76,13 +76,13 @@ pub(crate) fn new_index<S: BlockStore>(
     bytes: u32,
     slots: u32,
     draws: &[u64],
-) -> Result<(Vault<BaseRevs>, Room, Index), Fault>
+) -> Result<(Vault<BaseRevs>, RowBuffer, Index), Fault>
     requires none { (S.state store.old).asked ≡ [] }
     ensures session { IfOk result (λ new. IsSession new.1 new.2
         (at ⟦<BaseRevs as Revisions>⟧.state new.0 (S.state store.new))) }
 {
     let mut vault: Vault<BaseRevs> = Vault::new(alloc, Keys::derive(&[5; 32]));
-    let mut room = match Room::new(alloc, 2048, 265, 1) {
+    let mut room = match RowBuffer::new(alloc, 2048, 265, 1) {
         Ok(room) => room,
         Err(_) => return Err(Fault::NoMemory),
     };
@@ -94,7 +94,7 @@ pub(crate) fn new_index<S: BlockStore>(
 fn serve<S: BlockStore, R: Revisions>(
     store: &mut S,
     vault: &mut Vault<R>,
-    room: &mut Room,
+    room: &mut RowBuffer,
     index: &mut Index,
     op: &Op<'_>,
     draw: u64,
@@ -115,7 +115,7 @@ fn serve<S: BlockStore, R: Revisions>(
 pub(crate) fn ask_key<S: BlockStore, R: Revisions>(
     store: &mut S,
     vault: &mut Vault<R>,
-    room: &mut Room,
+    room: &mut RowBuffer,
     index: &mut Index,
     key: i64,
     what: Ask,

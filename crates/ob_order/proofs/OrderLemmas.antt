@@ -24,14 +24,14 @@ same (x ∷ xs) (y ∷ ys) tied = go (nat_cmp x y) refl tied (same xs ys)
     go Equal is tied rest = λ i. ranked x y Equal is i ∷ rest tied i
     go Greater is tied rest = absurd (cc tied)
 
--- ---- what isn't behind another
+-- ---- what isn't after another
 not_first : (o p : Ordering) → is_lt (ordering_then o p) ≡ false → is_lt o ≡ false
 not_first Less p h = h
 not_first Equal p h = refl
 not_first Greater p h = refl
 
 module _ {K : Type 0} {R : K → K → Ordering} (o : IsTotalOrder R) where
-  -- x comes before z, where it isn't behind y, and y comes before z
+  -- x comes before z, where it isn't after y, and y comes before z
   before : (x y z : K) → is_lt (R y x) ≡ false → is_lt (R y z) ≡ true → is_lt (R x z) ≡ true
   before x y z not less = go (R y x) refl (R y z) refl not less
     where

@@ -97,7 +97,7 @@ mark_at (Some place) there = slice_set there place true
 abbrev pub noted : (at : ℕ) → (key : List ℕ) → (rows : List (List ℕ)) → List Bool → List Bool
 noted at key rows there = mark_at (position (has_field at key) rows) there
 
--- what a row with this key is answered, where so many slots are free, and the keys behind it
+-- what a row with this key is answered, where so many slots are free, and the keys after it
 abbrev pub admitted : (key : List ℕ) → (keys : List (List ℕ)) → (free : ℕ) → Admitted
 admitted key keys free =
     if has_key key keys then Duplicate else (if free == 0 then Full else Done)
@@ -106,7 +106,7 @@ abbrev pub keys_after : (key : List ℕ) → (keys : List (List ℕ)) → (free 
 keys_after key keys free =
     if has_key key keys then keys else (if free == 0 then keys else key ∷ keys)
 
--- how many slots are free behind it
+-- how many slots are free after it
 abbrev pub free_after : Admitted → ℕ → ℕ
 free_after Done free = free - 1
 free_after Duplicate free = free

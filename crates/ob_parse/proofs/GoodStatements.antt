@@ -22,7 +22,7 @@ use Rattle.ob_sql.specs.Search.{Search}
 use Rattle.ob_condition.specs.Marks.{flag, is, key, marked, name_in, name_of, number_of}
 use Rattle.ob_condition.specs.Conditions.{Column, Searching, Constant, Where}
 use Rattle.ob_condition.specs.Reading.{column, condition, constant, where_part}
-use Rattle.ob_parse.specs.Statements.{all_columns, capped, integer_mark, integer_of, new_column, of_items, rows, set_of, Argument, Assignment, Behind, Body, Constraint, Counted, Create, Definition, Delete, Drop, Group, Groups, Insert, Itemized, Joins, Kind, Names, OneItem, Selection, Shaped, Sources, Starred, Statement, Targets, Update}
+use Rattle.ob_parse.specs.Statements.{all_columns, capped, integer_mark, integer_of, new_column, of_items, rows, set_of, Argument, Assignment, AfterName, Body, Constraint, Counted, Create, Definition, Delete, Drop, Group, Groups, Insert, Itemized, Joins, Kind, Names, OneItem, Selection, Shaped, Sources, Starred, Statement, Targets, Update}
 use Rattle.ob_parse.specs.StatementReading.{all_or_column, argument, assignment, behind, body, constrains, constraint, constraints, counted, create, definition, delete, deleting, drop_table, dropping, expects, greatest, group, groups, insert, inserting, item, itemized, joined_or, joins, kind, least, names, selection, shape, sources, starred, statement, summed, targets, update, updating, varchar}
 use Rattle.ob_condition.proofs.Told.{of, apart, apart_some, no_key}
 use Rattle.ob_condition.proofs.GoodConditions.{AfterColumn, AfterCond, column_first, good_column, good_condition, good_constant}
@@ -81,7 +81,7 @@ list_of : {V : Type 0} {A : V → List Token → Type 0} {a : Reader Token V} {F
 list_of {V} {A} {a} {Fa} F good stops ends between last =
     good_chain (key M.Comma) (of (L.Mark M.Comma)) refl (λ v. v ∷ []) (λ s v. s ++ v ∷ []) A Fa F a good (λ t f. no_key M.Comma t.lexeme (stops t f)) ends between last
 
--- ---- what may stand behind a statement without its semicolon
+-- ---- what may stand after a statement without its semicolon
 
 abbrev pub Final : Token → Type 0
 Final t = (is M.Dot t.lexeme ≡ false) × (is M.And t.lexeme ≡ false) × (is M.Or t.lexeme ≡ false) × (is M.Where t.lexeme ≡ false) × (is M.Group t.lexeme ≡ false)
@@ -335,7 +335,7 @@ pub good_item : Good OneItem AfterColumn item
 unfolding item
 good_item = or_word M.Count refl good_counted good_summed (summed_apart M.Count refl refl refl refl) column_end
 
--- behind a table's name
+-- after a table's name
 abbrev AfterSource : Token → Type 0
 AfterSource t = (is M.Dot t.lexeme ≡ false) × (is M.Inner t.lexeme ≡ false) × (is M.Join t.lexeme ≡ false)
 
@@ -358,7 +358,7 @@ unfolding joined_or
 good_joined_or a = good_keyed_or (key M.Join) tt (of (L.Mark M.Join)) refl (λ _. Joins a) (G.Empty (F.Table a)) AfterSource (λ _. joins a) (R.empty (F.Table a))
     (λ _. good_joins a) (good_empty (F.Table a) AfterSource) (λ v w h. inl h.1) (λ v h t f. no_key M.Join t.lexeme f.2) source_end
 
-good_behind : (a : List ℕ) → Good (Behind a) AfterSource (behind a)
+good_behind : (a : List ℕ) → Good (AfterName a) AfterSource (behind a)
 unfolding behind
 good_behind a = good_keyed_or (key M.Inner) tt (of (L.Mark M.Inner)) refl (λ _. G.Bind (G.Token (key M.Join)) (λ _. Joins a)) (G.Either (G.Bind (G.Token (key M.Join)) (λ _. Joins a)) (G.Empty (F.Table a)))
     AfterSource (λ _. expects M.Join (joins a)) (joined_or a) (λ _. word M.Join refl (good_joins a) source_end) (good_joined_or a) no_inner (λ v h t f. no_key M.Inner t.lexeme f.1) source_end where
@@ -396,7 +396,7 @@ groups_source (F.Join left right on equals) v w h = inl h.1
 module _ (text : List ℕ) where
   good_starred : Good (Starred text) Final (starred text)
   unfolding starred
-  good_starred = word M.From refl (named (λ a. good_before (Behind a) (λ source. G.Bind (Where text) (λ cond. G.Empty (rows None source cond))) AfterSource Final
+  good_starred = word M.From refl (named (λ a. good_before (AfterName a) (λ source. G.Bind (Where text) (λ cond. G.Empty (rows None source cond))) AfterSource Final
       (behind a) (λ source. R.bind (where_part text) (λ cond. R.empty (rows None source cond))) (good_behind a)
       (λ source. good_last_where text (λ cond. rows None source cond))
       (λ source v w h. last_where_leads text (λ cond. rows None source cond) AfterSource (after_source M.Where refl refl refl) v w h)

@@ -22,7 +22,7 @@ module _ {U : Type 0} (a : List Token → Read U) (ts : List Token) where
   parts_next had now u t rest after more left k begun is e within =
       subst (λ vs. Parts vs more) (sym is) (left_next (key M.Comma) (λ v. v ∷ []) (λ s v. s ++ v ∷ []) a ts had t after u more (subst (Parts had) begun left) k e within)
 
-  -- or none behind a comma
+  -- or none after a comma
   pub parts_stuck : (had : List U) (t : Token) (rest after more : List Token) → Parts had rest → key M.Comma t ≡ Some tt → rest ≡ t ∷ after → a after ≡ Err more
       → listed (key M.Comma) a ts ≡ Err more
   parts_stuck had t rest after more left k begun e =

@@ -16,7 +16,7 @@ use Rattle.ob_token.specs.declared.token.Mark.TheVariants as M
 use Rattle.ob_token.specs.declared.token.Token.{Token}
 use Rattle.ob_condition.specs.Marks.{key, name_of}
 use Rattle.ob_condition.specs.Conditions.{Column, Where}
-use Rattle.ob_parse.specs.Statements.{all_columns, is_column, of_items, rows, Behind, Groups, Itemized, Joins, OneItem, Selection, Sources, Starred}
+use Rattle.ob_parse.specs.Statements.{all_columns, is_column, of_items, rows, AfterName, Groups, Itemized, Joins, OneItem, Selection, Sources, Starred}
 use Rattle.ob_parse.specs.Selects.{ColumnsOfJoin, Inners, ItemsOfTable, OneSource, ThreeForms}
 
 -- ---- one after the other
@@ -36,12 +36,12 @@ then_so A B B' so v ts (u, x, y, a, b, e) = (u, x, y, a, so u v y b, e)
 
 -- ---- one table or two
 
-to_source : (s : Source) (ts : List Token) → Bind (OneToken name_of) Behind s ts → OneSource s ts
+to_source : (s : Source) (ts : List Token) → Bind (OneToken name_of) AfterName s ts → OneSource s ts
 to_source s ts (a, x, y, n, inl h, e) = inr (a, x, y, n, inl h, e)
 to_source s ts (a, x, y, n, inr (inl h), e) = inr (a, x, y, n, inr h, e)
 to_source s ts (a, x, y, n, inr (inr h), e) = inl (a, x, y, n, h, e)
 
-of_source : (s : Source) (ts : List Token) → OneSource s ts → Bind (OneToken name_of) Behind s ts
+of_source : (s : Source) (ts : List Token) → OneSource s ts → Bind (OneToken name_of) AfterName s ts
 of_source s ts (inl (a, x, y, n, h, e)) = (a, x, y, n, inr (inr h), e)
 of_source s ts (inr (a, x, y, n, inl h, e)) = (a, x, y, n, inl h, e)
 of_source s ts (inr (a, x, y, n, inr h, e)) = (a, x, y, n, inr (inl h), e)
@@ -136,7 +136,7 @@ list_to_columns items ts (i, x, y, h, ms, e) c =
     let one : ColumnOf i x = to_column i x h (first_true (is_column i) true more.1) in
     (one.0, x, y, one.1, subst (λ l. More Column l (flat_map named_by items) y) (ap (λ j. named_by j ++ []) one.2) more.0, e)
 
--- ---- GROUP BY behind one table alone
+-- ---- GROUP BY after one table alone
 
 module _ (items : List Item) (cond : Option Search) where
   abbrev Ends : Source → Stmt → List Token → Type 0
@@ -223,7 +223,7 @@ module _ (text : List ℕ) where
     go true c (inr (inl joined)) = join c (inr joined)
     go true c (inr (inr (is, none))) = table is none
 
-  behind_of : (a : List ℕ) (source : Source) (w : List Token) → Inners a source w → Behind a source w
+  behind_of : (a : List ℕ) (source : Source) (w : List Token) → Inners a source w → AfterName a source w
   behind_of a source w (inl h) = inl h
   behind_of a source w (inr h) = inr (inl h)
 
@@ -270,10 +270,10 @@ module _ (text : List ℕ) where
   -- ---- and `*`
 
   to_all : (s : Stmt) (ts : List Token) → Starred text s ts → Bind (OneToken (key M.From)) (λ _. Bind OneSource (Filtered None)) s ts
-  to_all s ts (u, x, y, k, h, e) = (u, x, y, k, first_so (Bind (OneToken name_of) Behind) OneSource (Filtered None) to_source s y (bind_left (OneToken name_of) Behind (Filtered None) s y h), e)
+  to_all s ts (u, x, y, k, h, e) = (u, x, y, k, first_so (Bind (OneToken name_of) AfterName) OneSource (Filtered None) to_source s y (bind_left (OneToken name_of) AfterName (Filtered None) s y h), e)
 
   of_all : (s : Stmt) (ts : List Token) → Bind (OneToken (key M.From)) (λ _. Bind OneSource (Filtered None)) s ts → Starred text s ts
-  of_all s ts (u, x, y, k, h, e) = (u, x, y, k, bind_right (OneToken name_of) Behind (Filtered None) s y (first_so OneSource (Bind (OneToken name_of) Behind) (Filtered None) of_source s y h), e)
+  of_all s ts (u, x, y, k, h, e) = (u, x, y, k, bind_right (OneToken name_of) AfterName (Filtered None) s y (first_so OneSource (Bind (OneToken name_of) AfterName) (Filtered None) of_source s y h), e)
 
   pub to_forms : (s : Stmt) (ts : List Token) → Selection text s ts → ThreeForms text s ts
   to_forms s ts (inl (u, x, y, k, h, e)) = inl (u, x, y, k, to_all s y h, e)

@@ -17,7 +17,7 @@ abbrev pub offset : (all left : List Token) → ℕ
 offset all [] = last_end 0 all
 offset all (t ∷ left) = t.from
 
--- the tokens spell no statement, and this is the offset behind the longest front of them that begins one
+-- the tokens spell no statement, and this is the offset after the longest front of them that begins one
 pub record RefusedAt (text : List ℕ) (tokens : List Token) (at : ℕ) : Type 0 where
   pub front : ℕ
   pub place : IsPlace (Statement text) tokens front

@@ -10,7 +10,7 @@ use Rattle.ob_condition.specs.Marks.{key, name_of}
 use Rattle.ob_condition.specs.Conditions.{Column, Where}
 use Rattle.ob_parse.specs.Statements.{of_table, rows, Group, Joins, OneItem}
 
--- [ INNER ] JOIN name ON column '=' column, behind a table
+-- [ INNER ] JOIN name ON column '=' column, after a table
 abbrev pub Inners : List ℕ → Source → List Token → Type 0
 Inners a = Either (Bind (OneToken (key M.Inner)) (λ _. Bind (OneToken (key M.Join)) (λ _. Joins a))) (Bind (OneToken (key M.Join)) (λ _. Joins a))
 

@@ -114,7 +114,7 @@ OneItem = Either (Bind (OneToken (key M.Count)) (λ _. Counted))
     (Either (Bind (OneToken (key M.Min)) (λ _. Bind Argument (λ c. Empty (I.Min c))))
     (Either (Bind (OneToken (key M.Max)) (λ _. Bind Argument (λ c. Empty (I.Max c)))) (Bind Column (λ c. Empty (I.Column c))))))
 
--- name ON column '=' column, behind a table and JOIN
+-- name ON column '=' column, after a table and JOIN
 abbrev pub Joins : List ℕ → Source → List Token → Type 0
 Joins left = Bind (OneToken name_of) (λ right. Bind (OneToken (key M.On)) (λ _. Bind Column (λ on. Bind (OneToken (key M.Equal)) (λ _. Bind Column (λ equals. Empty (F.Join left right on equals))))))
 
@@ -150,24 +150,24 @@ abbrev pub of_items : List Item → Source → Option Search → Option ColumnNa
 of_items items (F.Table table) cond group = of_table items table cond group
 of_items items (F.Join left right on equals) cond group = rows (Some (flat_map named_by items)) (F.Join left right on equals) cond
 
--- name | joined, behind the name
-abbrev pub Behind : List ℕ → Source → List Token → Type 0
-Behind a = Either (Bind (OneToken (key M.Inner)) (λ _. Bind (OneToken (key M.Join)) (λ _. Joins a))) (Either (Bind (OneToken (key M.Join)) (λ _. Joins a)) (Empty (F.Table a)))
+-- name | joined, after the name
+abbrev pub AfterName : List ℕ → Source → List Token → Type 0
+AfterName a = Either (Bind (OneToken (key M.Inner)) (λ _. Bind (OneToken (key M.Join)) (λ _. Joins a))) (Either (Bind (OneToken (key M.Join)) (λ _. Joins a)) (Empty (F.Table a)))
 
--- a join stands behind plain columns alone
+-- a join stands after plain columns alone
 abbrev pub Sources : Bool → List ℕ → Source → List Token → Type 0
-Sources true a = Behind a
+Sources true a = AfterName a
 Sources false a = Empty (F.Table a)
 
--- GROUP BY stands behind one table alone
+-- GROUP BY stands after one table alone
 abbrev pub Groups : Source → Option ColumnName → List Token → Type 0
 Groups (F.Table a) = Group
 Groups (F.Join left right on equals) = Empty None
 
 module _ (text : List ℕ) where
-  -- FROM source [ WHERE cond ], behind SELECT '*'
+  -- FROM source [ WHERE cond ], after SELECT '*'
   abbrev pub Starred : Stmt → List Token → Type 0
-  Starred = Bind (OneToken (key M.From)) (λ _. Bind (OneToken name_of) (λ a. Bind (Behind a) (λ source. Bind (Where text) (λ cond. Empty (rows None source cond)))))
+  Starred = Bind (OneToken (key M.From)) (λ _. Bind (OneToken name_of) (λ a. Bind (AfterName a) (λ source. Bind (Where text) (λ cond. Empty (rows None source cond)))))
 
   -- column { ',' column } FROM joined [ WHERE cond ] | item { ',' item } FROM name [ WHERE cond ] [ GROUP BY column ]
   abbrev pub Itemized : Stmt → List Token → Type 0

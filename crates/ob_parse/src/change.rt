@@ -1,4 +1,4 @@
-//! CREATE, INSERT, UPDATE, DELETE and DROP are read, behind their first words.
+//! CREATE, INSERT, UPDATE, DELETE and DROP are read, after their first words.
 ghost use Rattle.std.specs.Prelude.{◌≡◌};
 ghost use Rattle.ob_parse.specs.Statements.{capped, integer_mark, integer_of};
 ghost use Rattle.ob_condition.specs.Reading.{Gives};

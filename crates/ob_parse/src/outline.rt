@@ -103,7 +103,7 @@ fn column_names(alloc: Global, columns: &[ColumnName]) -> Result<Items<ColumnNam
     Ok(Items::from_vec(found))
 }
 
-// The column that an item names is kept behind those before it.
+// The column that an item names is kept after those before it.
 fn keep_named(found: &mut Vec<ColumnName>, item: &Listed) -> Result<(), NoMemory>
     ensures { OnOk result (found.new.items ≡ found.old.items ++ outline.named_by item.now) }
 {

@@ -1,4 +1,4 @@
-//! SELECT is read, behind its first word.
+//! SELECT is read, after its first word.
 ghost use Rattle.std.specs.Prelude.{◌≡◌, Some, IfOk};
 ghost use Rattle.std.specs.List.{flat_map};
 ghost use Rattle.ob_sql.specs.Skeleton.{named_by};

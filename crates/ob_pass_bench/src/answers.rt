@@ -11,7 +11,7 @@ use ob_group::{aggregate, group};
 use ob_io::StdSink;
 use ob_order::Buckets;
 use ob_print::{Pieces, Printer, RecordLine};
-use ob_room::Room;
+use ob_room::RowBuffer;
 use ob_row::{Agg, Item, Pred};
 use ob_store::BlockStore;
 use ob_vault::{Revisions, Vault};
@@ -53,7 +53,7 @@ impl Emit for Counter {
 pub(crate) fn total<S: BlockStore, R: Revisions>(
     store: &mut S,
     vault: &mut Vault<R>,
-    room: &mut Room,
+    room: &mut RowBuffer,
     flat: &Flat,
 ) -> Result<u64, OpErr>
     requires { MayRun room.old flat.now (at R.state vault.old (S.state store.old)) }
@@ -68,7 +68,7 @@ pub(crate) fn total<S: BlockStore, R: Revisions>(
 pub(crate) fn count_aggregate<S: BlockStore, R: Revisions>(
     store: &mut S,
     vault: &mut Vault<R>,
-    room: &mut Room,
+    room: &mut RowBuffer,
     flat: &Flat,
 ) -> Result<u64, OpErr>
     requires { MayRun room.old flat.now (at R.state vault.old (S.state store.old)) }
@@ -83,7 +83,7 @@ pub(crate) fn groups<S: BlockStore, R: Revisions>(
     alloc: Global,
     store: &mut S,
     vault: &mut Vault<R>,
-    room: &mut Room,
+    room: &mut RowBuffer,
     flat: &Flat,
 ) -> Result<u64, OpErr>
     requires { MayRun room.old flat.now (at R.state vault.old (S.state store.old)) }
@@ -113,7 +113,7 @@ pub(crate) fn groups<S: BlockStore, R: Revisions>(
 fn emit_columns<S: BlockStore, R: Revisions, E: Emit>(
     store: &mut S,
     vault: &mut Vault<R>,
-    room: &mut Room,
+    room: &mut RowBuffer,
     flat: &Flat,
     out: &mut E,
 ) -> Result<u64, OpErr>
@@ -129,7 +129,7 @@ fn emit_columns<S: BlockStore, R: Revisions, E: Emit>(
 pub(crate) fn emission<S: BlockStore, R: Revisions>(
     store: &mut S,
     vault: &mut Vault<R>,
-    room: &mut Room,
+    room: &mut RowBuffer,
     flat: &Flat,
 ) -> Result<u64, OpErr>
     requires { MayRun room.old flat.now (at R.state vault.old (S.state store.old)) }
@@ -144,7 +144,7 @@ pub(crate) fn printing<S: BlockStore, R: Revisions>(
     alloc: Global,
     store: &mut S,
     vault: &mut Vault<R>,
-    room: &mut Room,
+    room: &mut RowBuffer,
     flat: &Flat,
 ) -> Result<u64, OpErr>
     requires { MayRun room.old flat.now (at R.state vault.old (S.state store.old)) }

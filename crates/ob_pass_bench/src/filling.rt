@@ -18,7 +18,7 @@ ghost use Rattle.ob_pass_bench.specs.Tables.{AreColumns, IsOpen, MayRun};
 use crate::schemas::cells_of;
 use ob_base::Schema;
 use ob_flat::{Flat, OpErr, clear_row, make_table};
-use ob_room::{ClearRow, Room};
+use ob_room::{ClearRow, RowBuffer};
 use ob_row::encode;
 use ob_store::BlockStore;
 use ob_vault::{Order, Revisions, Vault};
@@ -31,7 +31,7 @@ pub(crate) fn make_room<S: BlockStore>(store: &mut S, n: u64) -> Result<(), OpEr
     ensures spare { OnOk result (n ≤ (S.state store.new).spare) }
     ensures few { OnOk result (length (S.state store.new).asked < 2 ^ 59) }
 {
-    if store.room(n).is_err() || store.count() >= 1 << 59 {
+    if store.reserve(n).is_err() || store.count() >= 1 << 59 {
         return Err(OpErr::NoMemory);
     }
     Ok(())
@@ -154,7 +154,7 @@ pub(crate) fn filled<S: BlockStore, R: Revisions>(
     alloc: Global,
     store: &mut S,
     vault: &mut Vault<R>,
-    room: &mut Room,
+    room: &mut RowBuffer,
     schema: &Schema,
     capacity: u32,
     full: u32,

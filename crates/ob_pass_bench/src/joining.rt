@@ -8,7 +8,7 @@ use crate::filling::make_room;
 use ob_flat::{Flat, OpErr};
 use ob_join::join;
 use ob_order::Order;
-use ob_room::Room;
+use ob_room::RowBuffer;
 use ob_store::BlockStore;
 use ob_vault::{Revisions, Vault};
 use std::alloc::Global;
@@ -33,7 +33,7 @@ fn blocks_of(pack: u32, rows: u32, left: u32, right: u32) -> u64
 pub(crate) fn join_keys<S: BlockStore, R: Revisions>(
     store: &mut S,
     vault: &mut Vault<R>,
-    room: &mut Room,
+    room: &mut RowBuffer,
     alloc: Global,
     left: &Flat,
     right: &Flat,

@@ -28,7 +28,7 @@ fn number(words: &mut SplitAsciiWhitespace<'_>) -> Option<u32> {
     words.next()?.parse::<u32>().ok()
 }
 
-// The case that a line gives behind the letter of its pass.
+// The case that a line gives after the letter of its pass.
 fn case_of(pass: u8, words: &mut SplitAsciiWhitespace<'_>) -> Option<Case> {
     let width = number(words)?;
     let pack = number(words)?;

@@ -7,7 +7,7 @@ use crate::schemas::cells_of;
 use ob_base::ComparisonOperator;
 use ob_flat::{Flat, OpErr, count};
 use ob_mutate::{Former, Inserted, delete, insert, update};
-use ob_room::Room;
+use ob_room::RowBuffer;
 use ob_row::{Cell, Operand, Pred};
 use ob_store::BlockStore;
 use ob_vault::{Revisions, Vault};
@@ -22,7 +22,7 @@ pub(crate) fn half() -> Pred {
 pub(crate) fn count_half<S: BlockStore, R: Revisions>(
     store: &mut S,
     vault: &mut Vault<R>,
-    room: &mut Room,
+    room: &mut RowBuffer,
     flat: &Flat,
 ) -> Result<u64, OpErr>
     requires { MayRun room.old flat.now (at R.state vault.old (S.state store.old)) }
@@ -37,7 +37,7 @@ pub(crate) fn insert_one<S: BlockStore, R: Revisions>(
     alloc: Global,
     store: &mut S,
     vault: &mut Vault<R>,
-    room: &mut Room,
+    room: &mut RowBuffer,
     flat: &mut Flat,
 ) -> Result<u64, OpErr>
     requires { MayRun room.old flat.old (at R.state vault.old (S.state store.old)) }
@@ -56,7 +56,7 @@ pub(crate) fn insert_one<S: BlockStore, R: Revisions>(
 pub(crate) fn update_half<S: BlockStore, R: Revisions>(
     store: &mut S,
     vault: &mut Vault<R>,
-    room: &mut Room,
+    room: &mut RowBuffer,
     flat: &mut Flat,
 ) -> Result<u64, OpErr>
     requires { MayRun room.old flat.old (at R.state vault.old (S.state store.old)) }
@@ -77,7 +77,7 @@ pub(crate) fn update_half<S: BlockStore, R: Revisions>(
 pub(crate) fn delete_half<S: BlockStore, R: Revisions>(
     store: &mut S,
     vault: &mut Vault<R>,
-    room: &mut Room,
+    room: &mut RowBuffer,
     flat: &mut Flat,
 ) -> Result<u64, OpErr>
     requires { MayRun room.old flat.old (at R.state vault.old (S.state store.old)) }

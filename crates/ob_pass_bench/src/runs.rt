@@ -13,7 +13,7 @@ use crate::schemas::{FEW, SCATTERED, schema_of};
 use crate::selects::{continuous, hash, large, small};
 use ob_base::Schema;
 use ob_flat::{Flat, OpErr, create, discard};
-use ob_room::Room;
+use ob_room::RowBuffer;
 use ob_seal::Keys;
 use ob_store::{BlockStore, MemStore};
 use ob_vault::{BaseRevs, Revisions, Vault};
@@ -38,7 +38,7 @@ fn run_join<H: Input + Print + AllocGlobal, S: BlockStore, R: Revisions>(
     host: &H,
     store: &mut S,
     vault: &mut Vault<R>,
-    room: &mut Room,
+    room: &mut RowBuffer,
     schemas: (&Schema, &Schema),
     case: &Case,
 ) -> Result<u64, OpErr>
@@ -65,7 +65,7 @@ fn run_create<H: Input + Print + AllocGlobal, S: BlockStore, R: Revisions>(
     host: &H,
     store: &mut S,
     vault: &mut Vault<R>,
-    room: &mut Room,
+    room: &mut RowBuffer,
     schema: &Schema,
     slots: u32,
 ) -> Result<u64, OpErr>
@@ -83,7 +83,7 @@ fn run_create<H: Input + Print + AllocGlobal, S: BlockStore, R: Revisions>(
 fn run_discard<S: BlockStore, R: Revisions>(
     store: &mut S,
     vault: &mut Vault<R>,
-    room: &mut Room,
+    room: &mut RowBuffer,
     flat: Flat,
 ) -> Result<u64, OpErr>
     requires runs { MayRun room.old flat (at R.state vault.old (S.state store.old)) }
@@ -98,7 +98,7 @@ fn run_pass<S: BlockStore, R: Revisions>(
     alloc: Global,
     store: &mut S,
     vault: &mut Vault<R>,
-    room: &mut Room,
+    room: &mut RowBuffer,
     flat: &mut Flat,
     case: &Case,
 ) -> Result<u64, OpErr>
@@ -129,7 +129,7 @@ fn run_case<H: Input + Print + AllocGlobal, S: BlockStore, R: Revisions>(
     host: &H,
     store: &mut S,
     vault: &mut Vault<R>,
-    room: &mut Room,
+    room: &mut RowBuffer,
     schemas: (&Schema, &Schema),
     case: &Case,
 ) -> Result<u64, OpErr>
@@ -185,7 +185,7 @@ fn run_alone<H: Input + Print + AllocGlobal>(
     requires number { (1 ≤ case.now.k) × (case.now.k ≤ case.now.slots) }
 {
     let alloc = host.alloc();
-    let Ok(mut room) = Room::new(alloc, case.rows, 1024, case.pack) else {
+    let Ok(mut room) = RowBuffer::new(alloc, case.rows, 1024, case.pack) else {
         return None;
     };
     let mut store = MemStore::new(alloc);

@@ -7,7 +7,7 @@ use crate::filling::make_room;
 use ob_base::ComparisonOperator;
 use ob_flat::{Flat, OpErr};
 use ob_hash::Placed;
-use ob_room::Room;
+use ob_room::RowBuffer;
 use ob_row::{Cell, Operand, Pred};
 use ob_store::BlockStore;
 use ob_vault::{Revisions, Vault};
@@ -28,7 +28,7 @@ fn below(k: u32) -> Pred {
 pub(crate) fn small<S: BlockStore, R: Revisions>(
     store: &mut S,
     vault: &mut Vault<R>,
-    room: &mut Room,
+    room: &mut RowBuffer,
     flat: &Flat,
     k: u32,
 ) -> Result<u64, OpErr>
@@ -49,7 +49,7 @@ pub(crate) fn small<S: BlockStore, R: Revisions>(
 pub(crate) fn large<S: BlockStore, R: Revisions>(
     store: &mut S,
     vault: &mut Vault<R>,
-    room: &mut Room,
+    room: &mut RowBuffer,
     flat: &Flat,
     k: u32,
 ) -> Result<u64, OpErr>
@@ -64,7 +64,7 @@ pub(crate) fn large<S: BlockStore, R: Revisions>(
 pub(crate) fn continuous<S: BlockStore, R: Revisions>(
     store: &mut S,
     vault: &mut Vault<R>,
-    room: &mut Room,
+    room: &mut RowBuffer,
     flat: &Flat,
     k: u32,
 ) -> Result<u64, OpErr>
@@ -80,7 +80,7 @@ pub(crate) fn continuous<S: BlockStore, R: Revisions>(
 pub(crate) fn hash<S: BlockStore, R: Revisions>(
     store: &mut S,
     vault: &mut Vault<R>,
-    room: &mut Room,
+    room: &mut RowBuffer,
     flat: &Flat,
     k: u32,
     is_shallow: bool,

@@ -3,7 +3,7 @@ use Rattle.std.specs.Prelude.{ℕ, ◌%◌, ◌^◌, Bool, nat_le, List, [], ◌
 use Rattle.std.specs.List.{flat_map}
 use Rattle.std.specs.Prelude.{nat_lt}
 use Rattle.ob_path.specs.Paths.{path_up, is_on_path}
-use Rattle.ob_path.specs.Rows.{rows, slots_of, list_of, first, with_key, but, by_key, firsts, but_firsts}
+use Rattle.ob_path.specs.Rows.{rows, slots_of, list_of, first, with_key, except, by_key, firsts, except_firsts}
 use Rattle.ob_path.specs.States.{State, bucket, with_bucket}
 
 pub data Op (R : Type 0) : Type 0 where
@@ -47,7 +47,7 @@ got (Remove k) (Some was) = Done
 
 -- rows with the operation applied at its key, among n keys
 abbrev pub applied : {R : Type 0} → (R → ℕ) → ℕ → Op R → List R → List R
-applied key n op all = let k = key_of key op in if nat_lt k n then list_of (after op (first (with_key key k all))) ++ but key k all else all
+applied key n op all = let k = key_of key op in if nat_lt k n then list_of (after op (first (with_key key k all))) ++ except key k all else all
 
 abbrev pub answer : {R : Type 0} → ℕ → ℕ → Op R → Option R → Got R
 answer n k op was = if nat_lt k n then got op was else OutOfRange
@@ -63,7 +63,7 @@ pub record Evicted (R : Type 0) : Type 0 where
 
 -- a bucket takes the first four of the rows left that fit it, and the others are left
 abbrev pub fill : {R : Type 0} → (ℕ → R → Bool) → ℕ → Evicted R → Evicted R
-fill fits b e = record { tree = with_bucket e.tree b (slots_of 4 (firsts 4 (fits b) e.left)); left = but_firsts 4 (fits b) e.left }
+fill fits b e = record { tree = with_bucket e.tree b (slots_of 4 (firsts 4 (fits b) e.left)); left = except_firsts 4 (fits b) e.left }
 
 -- one bucket after the other
 abbrev pub evict : {R : Type 0} → (ℕ → R → Bool) → List ℕ → Evicted R → Evicted R
@@ -81,7 +81,7 @@ leaves_after h s k draw = slice_set s.leaves k (draw % 2 ^ h)
 abbrev pub fits_by : {R : Type 0} → (R → ℕ) → ℕ → List ℕ → ℕ → R → Bool
 fits_by key h leaves b row = is_on_path h (slice_index_or leaves (key row) 0) b
 
--- the tree behind an access of key k, and the rows left for the stash
+-- the tree after an access of key k, and the rows left for the stash
 abbrev pub evicted : {R : Type 0} → (R → ℕ) → ℕ → State R → Op R → ℕ → Evicted R
 evicted key h s op draw = let k = key_of key op in let leaf = leaf_read h s k draw in
     evict (fits_by key h (leaves_after h s k draw)) (path_up h leaf) (record { tree = s.tree; left = by_key key (applied key (length s.leaves) op (take_path h s leaf)) })

@@ -80,7 +80,7 @@ pub Sends-step : {w0 w1 w2 : Option (List ℕ)} {q0 q1 q2 q3 : List ℕ} {F : Ty
 Sends-step {w0 = w0} {w1 = w1} {w2 = w2} {q0 = q0} {q1 = q1} {q2 = q2} {q3 = q3} {F = F} done front so_far waits cut none =
     subst (λ (l : List ℕ). Sends w0 w2 q0 q3 F (done ++ l)) (append-nil front) (Sends-then done (front ++ []) so_far (Sends-then front [] (Sends-waits w1 q1 q2 front waits) (Sends-flush q2 q3 cut none)))
 
--- what is left of a piece behind a front of its rest
+-- what is left of a piece after a front of its rest
 pub rest_behind : (piece done rest front later : List ℕ) (n : ℕ) → piece ≡ done ++ rest → front ≡ take n rest → later ≡ drop n rest → piece ≡ (done ++ front) ++ later
 rest_behind piece done rest front later n is before after =
     is ∙ ap (λ (l : List ℕ). done ++ l) (sym (take-append-drop n rest) ∙ (λ i. sym before i ++ sym after i)) ∙ sym (append_assoc done front later)

@@ -17,7 +17,7 @@ pub record IsBetween {W : Type 0} (w : Writer W) : Type 0 where
   pub wrote : has_written w ≡ false
   pub pending : writer_pending w ≡ []
 
--- the last line begins here, behind few others
+-- the last line begins here, after few others
 pub record HasLine (from : ℕ) (w : Writer (Vec ℕ Global)) : Type 0 where
   pub between : IsBetween w
   pub within : from ≤ length (writer_under w).items

@@ -29,7 +29,7 @@ unfoldable pub events_text : List Event → List ℕ
 events_text [] = []
 events_text (e ∷ es) = event_text e ++ events_text es
 
--- the text of these events came behind what waited for a sink
+-- the text of these events came after what waited for a sink
 abbrev pub Printed : (written0 written1 : Option (List ℕ)) (waiting0 waiting1 : List ℕ)
     → List Event → Type 0
 Printed written0 written1 waiting0 waiting1 events =

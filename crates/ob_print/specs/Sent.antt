@@ -4,7 +4,7 @@ use Rattle.std.specs.Io.KnownBytes.{Appends}
 use Rattle.std.proofs.Common.{inl}
 use Rattle.std.proofs.KnownBytes.{Appends-nil}
 
--- these bytes came behind those that waited, and a sink took the first of all of them; the others wait, but for those that
+-- these bytes came after those that waited, and a sink took the first of all of them; the others wait, except for those that
 -- were lost after a fault
 pub record Sends (written0 written1 : Option (List ℕ)) (waiting0 waiting1 : List ℕ)
     (Fault : Type 0) (bytes : List ℕ) : Type 0 where

@@ -91,7 +91,7 @@ fn write_record<F: Field>(writer: &mut Writer<Vec<u8>>, fields: &[F]) -> Result<
 /// How many bytes of earlier lines may be kept.
 const MOST_KEPT: usize = 32_768;
 
-/// The line of a record. One writer writes one line after the other, behind those that it keeps.
+/// The line of a record. One writer writes one line after the other, after those that it keeps.
 #[derive(Drop)]
 pub struct RecordLine {
     writer: Writer<Vec<u8>>,

@@ -20,7 +20,7 @@ fn add_cells(cells: &[Cell], to: &mut Vec<Cell>) -> Result<(), NoMemory>
     }
 }
 
-// A left row, and a right row behind it.
+// A left row, and a right row after it.
 fn joined(alloc: Global, left: &[Cell], right: &[Cell]) -> Result<Tuple, NoMemory>
     ensures { IfOk result (λ row. row ≡ left.now ++ right.now) }
 {

@@ -52,7 +52,7 @@ fn taken(way: Fold, sum: i128, x: i64) -> i128
     }
 }
 
-// The integers of a column behind `sum`.
+// The integers of a column after `sum`.
 fn fold_from(way: Fold, i: usize, rows: &[Tuple], sum: i128) -> i128
     requires { nat_abs sum + 2 ^ 63 * length rows.now < 2 ^ 127 }
     ensures { result ≡ fold (taken way) sum (column_ints i rows.now) }

@@ -16,7 +16,7 @@ use Rattle.ob_reopen.specs.declared.listed.Listed.{Listed}
 use Rattle.ob_reopen.specs.Limits.{IsCatalogue, IsListed, are_apart, end_of}
 use Rattle.ob_reopen.specs.Writings.{ListsAll, MayList, StandApart, catalogue_of, is_before, listed_of, placed}
 
--- ---- a table is put behind the first ones that have a smaller name
+-- ---- a table is put after the first ones that have a smaller name
 abbrev put : List Listed → Listed → List Listed
 put [] t = t ∷ []
 put (u ∷ us) t = if is_before t u then u ∷ put us t else t ∷ u ∷ us
@@ -129,7 +129,7 @@ turned pack t u apart = record {
   numbers = elim apart.numbers [ inl le ↦ inr le | inr le ↦ inl le ];
 }
 
--- ---- each table is apart from those behind it
+-- ---- each table is apart from those after it
 abbrev Sorted : ℕ → List Listed → Type 0
 Sorted pack [] = Unit {0}
 Sorted pack (t ∷ ts) = Each (λ (u : Listed). IsTrue (are_apart pack t u)) ts × Sorted pack ts
@@ -148,7 +148,7 @@ all_apart pack keys revs (t ∷ ts) apart = (
 )
 
 module _ (pack : ℕ) where
-  -- the first of them comes before those that come behind another one
+  -- the first of them comes before those that come after another one
   first_of_all : (t u : Listed) (us : List Listed) → is_smaller t u ≡ true → Each (λ (v : Listed). IsTrue (are_apart pack u v)) us → Each (λ (v : Listed). StandApart pack v t) us
       → Each (λ (v : Listed). IsTrue (are_apart pack t v)) us
   first_of_all t u us less behind apart =

@@ -32,7 +32,7 @@ added_count closing zero bytes before after count adds = omega (arith, ap (λ (l
 added_count closing (suc p) bytes before after count adds =
     omega (arith, ap (λ (l : List Listed). length l) adds.more, length-append before (adds.table ∷ []), count)
 
--- a row behind the head that lists a table
+-- a row after the head that lists a table
 pub adds_row : (closing : Closing) (place : ℕ) (bytes : List ℕ) (before after : List Listed) (t : Listed) → place ≢ 0 → GoesOn closing before t → bytes ≡ table_text t → after ≡ before ++ t ∷ []
     → ((u : Listed) → GoesOn closing before u → bytes ≡ table_text u → u ≡ t) → AddsRow closing place bytes before after
 adds_row closing zero bytes before after t off on is more only = absurd (off refl)
@@ -70,7 +70,7 @@ texts_more closing (suc p) rows before after below count same adds =
     ∙ sym (take_all (suc p + 1) (texts closing after) long)
 
 -- ---- where the rows are those of a catalogue
--- the table that a row behind the head lists
+-- the table that a row after the head lists
 pub record NextTable (closing : Closing) (rows : List (List ℕ)) (whole before : List Listed) (p : ℕ) : Type 0 where
   pub table : Listed
   pub got : slice_get whole p ≡ Some table

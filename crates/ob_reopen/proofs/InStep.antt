@@ -4,7 +4,7 @@ use Rattle.std.specs.Cmp.Lexicographic.{slice_cmp}
 use Rattle.std.specs.List.{prefix_len}
 use Rattle.std.specs.Ordering.{is_lt, nat_cmp}
 
--- one element is put behind the first ones that have a smaller name; `placed` of specs/Writings is such a one
+-- one element is put after the first ones that have a smaller name; `placed` of specs/Writings is such a one
 abbrev pub put_by : {A : Type 0} → (A → List ℕ) → List A → A → List A
 put_by name us t = insert us (prefix_len (λ u. is_lt (slice_cmp nat_cmp (name u) (name t))) us) t
 

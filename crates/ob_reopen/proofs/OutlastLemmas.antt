@@ -1,7 +1,7 @@
 -- What rests in a store stays while the regions that it is read from do.
 use Rattle.std.proofs.Common.{◌≡◌, ◌∷◌, [], ℕ, suc, List, Option, Some, inl, inr, refl, ◌∙◌}
 use Rattle.std.specs.Prelude.{slice_get}
-use Rattle.ob_reopen.specs.Resting.{AreKept, IsNeeded, KeepsTable, Rests}
+use Rattle.ob_reopen.specs.Resting.{AreKept, IsNeeded, KeepsTable, IsAtRest}
 use Rattle.ob_mean.specs.Verdict.{Tables}
 use Rattle.ob_reopen.specs.declared.closing.Closing.{Closing}
 use Rattle.ob_reopen.specs.declared.listed.Listed.{Listed}
@@ -31,7 +31,7 @@ module _ (keys : KeySet) (old new : ℕ → Option KeptRegion) where
   tables_last pack (t ∷ ts) (held ∷ tables) same kept =
       (kept.0, table_lasts pack t held.held.slots kept.1 (same 0 t refl), tables_last pack ts tables (λ i u is. same (suc i) u is) kept.2)
 
-  pub rests_last : (closing : Closing) (tables : Tables) (rests : Rests keys closing old tables) → ((q : ℕ) → IsNeeded closing rests.listed q → new q ≡ old q) → Rests keys closing new tables
+  pub rests_last : (closing : Closing) (tables : Tables) (rests : IsAtRest keys closing old tables) → ((q : ℕ) → IsNeeded closing rests.listed q → new q ≡ old q) → IsAtRest keys closing new tables
   rests_last closing tables rests same =
       let rows = rests.closing_is.rows in
       record {
@@ -54,7 +54,7 @@ module _ (keys : KeySet) (old new : ℕ → Option KeptRegion) where
       }
 
   -- it lists the same tables
-  pub listed_last : (closing : Closing) (tables : Tables) (rests : Rests keys closing old tables) (same : (q : ℕ) → IsNeeded closing rests.listed q → new q ≡ old q)
+  pub listed_last : (closing : Closing) (tables : Tables) (rests : IsAtRest keys closing old tables) (same : (q : ℕ) → IsNeeded closing rests.listed q → new q ≡ old q)
       → (rests_last closing tables rests same).listed ≡ rests.listed
   unfolding rests_last
   listed_last closing tables rests same = refl

@@ -97,7 +97,7 @@ column_parts c field name rest few is front back =
     let parts = cut 33 field (name_text c.name) (kind_text c.kind ++ key_text c.key) (length-name_text c.name few) is in
     record { name_is = front ∙ parts.front; rest_is = last_parts c.kind c.key rest (back ∙ parts.back) }
 
--- columns: the first of them, and the others behind it
+-- columns: the first of them, and the others after it
 pub record FirstColumn (table : List ℕ) (n : ℕ) (cs : Columns) (field fields : List ℕ) : Type 0 where
   pub column : Column
   pub others : Columns

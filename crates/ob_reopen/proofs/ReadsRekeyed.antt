@@ -5,7 +5,7 @@ use Rattle.std.specs.Prelude.{slice_index_or}
 use Rattle.ob_base.specs.Accesses.{region_of}
 use Rattle.ob_base.specs.declared.access.Access.{Access}
 use Rattle.ob_base.specs.declared.access.Access.TheVariants.{Read}
-use Rattle.ob_store.specs.State.{KeptRegion, Lie}
+use Rattle.ob_store.specs.State.{KeptRegion, FalseRead}
 use Rattle.ob_seal.specs.KeySet.{AreAlike, KeySet}
 use Rattle.ob_seal.proofs.Agree.{sealed_agree, tag_agree}
 use Rattle.ob_vault.specs.Calls.{Seals, Unfit, one}
@@ -13,7 +13,7 @@ use Rattle.ob_vault.specs.Numbers.{last_number}
 use Rattle.ob_vault.specs.Rekeying.{rekeyed}
 use Rattle.ob_vault.specs.Resuming.{KeptSealed, Stays, Unasked}
 use Rattle.ob_vault.specs.State.{World}
-use Rattle.ob_vault.specs.Tied.{AllSealed, Calm, EndsAt, Scope, at_of}
+use Rattle.ob_vault.specs.Tied.{AllSealed, Untampered, EndsAt, Scope, at_of}
 use Rattle.ob_vault.proofs.Rekeyed.{calm_rekeyed, ready_rekeyed, sealed_rekeyed}
 use Rattle.ob_reopen.specs.declared.closing.Closing.{Closing}
 use Rattle.ob_reopen.specs.declared.fault.OpenErr.{OpenErr}
@@ -79,16 +79,16 @@ module _ (closing : Closing) (keys : KeySet) (old new : World)
   live_there q lives (inl is) = is
   live_there q lives (inr off) = absurd (lives (stays.apart.kept q off ∙ empty q))
 
-  lie_there : Calm new → (lie : Lie) → new.store.lie ≡ Some lie → (lie.region ≡ closing.region) ⊎ (lie.region ≢ closing.region) → lie.region ≡ closing.region
+  lie_there : Untampered new → (lie : FalseRead) → new.store.lie ≡ Some lie → (lie.region ≡ closing.region) ⊎ (lie.region ≢ closing.region) → lie.region ≡ closing.region
   lie_there calm lie told (inl is) = is
   lie_there calm lie told (inr off) =
       let reads = calm.within lie told in
       absurd (asked_at lie.region lie.before (Read lie.region lie.place) reads.rest (subst (Unasked lie.region) (sym reads.is) (only lie.region off)) refl)
 
-  calm_old : Calm old
+  calm_old : Untampered old
   calm_old = record { calm = λ lie told. absurd (cc (honest, told)); within = λ lie told. absurd (cc (honest, told)) }
 
-  calms : (Calm old → Calm new) → Calm (rekeyed keys old) → Calm (rekeyed keys new)
+  calms : (Untampered old → Untampered new) → Untampered (rekeyed keys old) → Untampered (rekeyed keys new)
   calms calm is =
       let c = calm calm_old in
       calm_rekeyed keys new (λ lie told. same_at lie.region (lie_there c lie told (cases_eq lie.region closing.region))) c

@@ -12,7 +12,7 @@ use Rattle.ob_reopen.specs.declared.closing.Closing.{Closing}
 use Rattle.ob_reopen.specs.declared.listed.Listed.{Listed}
 use Rattle.ob_reopen.proofs.AlikeKeys.{pair_alike}
 use Rattle.ob_reopen.proofs.ReadsRekeyed.{rows_agree}
-use Rattle.ob_reopen.specs.Resting.{AreKept, KeepsTable, Rests, kept_block}
+use Rattle.ob_reopen.specs.Resting.{AreKept, KeepsTable, IsAtRest, kept_block}
 
 module _ (k l : KeySet) (kept : ℕ → Option KeptRegion) where
   table_agree : (pack : ℕ) (t : Listed) (slots : Slots) → AreAlike k l t.table.region → KeepsTable k pack t slots kept → KeepsTable l pack t slots kept
@@ -39,8 +39,8 @@ module _ (k l : KeySet) (kept : ℕ → Option KeptRegion) where
     tables_agree pack ts xs (λ i u is. same (suc i) u is) are.2,
   )
 
-  pub rests_agree : (closing : Closing) (tables : Tables) (rests : Rests k closing kept tables) → AreAlike k l closing.region
-      → ((i : ℕ) (t : Listed) → slice_get rests.listed i ≡ Some t → AreAlike k l t.table.region) → Rests l closing kept tables
+  pub rests_agree : (closing : Closing) (tables : Tables) (rests : IsAtRest k closing kept tables) → AreAlike k l closing.region
+      → ((i : ℕ) (t : Listed) → slice_get rests.listed i ≡ Some t → AreAlike k l t.table.region) → IsAtRest l closing kept tables
   rests_agree closing tables rests own each = record {
     listed = rests.listed;
     closing_is = record {

@@ -10,7 +10,7 @@ use Rattle.ob_seal.proofs.Salts.{known_pair, own_pair, plain_of_secret, salted_o
 use Rattle.ob_store.specs.State.{KeptRegion}
 use Rattle.ob_reopen.specs.declared.closing.Closing.{Closing}
 use Rattle.ob_reopen.specs.declared.listed.Listed.{Listed}
-use Rattle.ob_reopen.specs.Resting.{AreKept, IsNeeded, Rests}
+use Rattle.ob_reopen.specs.Resting.{AreKept, IsNeeded, IsAtRest}
 use Rattle.ob_reopen.specs.Saved.{RestsBy, reopening_keys, salted_of, salted_regions}
 use Rattle.ob_reopen.proofs.AlikeKeys.{ones_alike}
 use Rattle.ob_reopen.proofs.RestsAgree.{rests_agree}
@@ -30,7 +30,7 @@ is_salted (u ∷ us) zero t is = let same : u ≡ t = cc is in inl (ap (λ (x : 
 is_salted (u ∷ us) (suc i) t is = inr (is_salted us i t is)
 
 pub rests_under : (secret salt : List ℕ) (closed : Option (List ℕ)) (closing : Closing) (kept : ℕ → Option KeptRegion) (tables : Tables) (by : RestsBy secret closed closing kept tables)
-    → Rests (reopening_keys secret salt closed closing by.rests.listed) closing kept tables
+    → IsAtRest (reopening_keys secret salt closed closing by.rests.listed) closing kept tables
 rests_under secret salt closed closing kept tables by =
     let listed = by.rests.listed in
     let regions = salted_regions closed closing listed in
@@ -42,7 +42,7 @@ rests_under secret salt closed closing kept tables by =
     (alike closing.region (inl refl) (inl refl))
     (λ i t is. alike t.table.region (inr (i, t, is, refl)) (inr (is_salted listed i t is)))
 
-pub rests_plain : (secret : List ℕ) (closing : Closing) (kept : ℕ → Option KeptRegion) (tables : Tables) → Rests (keys_of secret) closing kept tables → RestsBy secret None closing kept tables
+pub rests_plain : (secret : List ℕ) (closing : Closing) (kept : ℕ → Option KeptRegion) (tables : Tables) → IsAtRest (keys_of secret) closing kept tables → RestsBy secret None closing kept tables
 unfolding pair_in
 rests_plain secret closing kept tables rests = record {
   keys = keys_of secret;
@@ -53,7 +53,7 @@ rests_plain secret closing kept tables rests = record {
 }
 
 pub rests_salted : (secret salt : List ℕ) (earlier : List Salted) (closing : Closing) (kept : ℕ → Option KeptRegion) (tables : Tables) → AreBefore closing.region earlier
-    → Rests (keys_salted secret salt earlier) closing kept tables → RestsBy secret (Some salt) closing kept tables
+    → IsAtRest (keys_salted secret salt earlier) closing kept tables → RestsBy secret (Some salt) closing kept tables
 rests_salted secret salt earlier closing kept tables before rests = record {
   keys = keys_salted secret salt earlier;
   of = salted_of_secret secret salt earlier;

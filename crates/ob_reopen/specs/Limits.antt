@@ -48,7 +48,7 @@ pub record IsHeading (h : Heading) : Type 0 where
   pub columns : IsTrue (list_all is_column h.schema)
   pub keys : count_by (λ (c : Column). c.key) h.schema ≤ 1
 
--- how many blocks a table has, and the number behind that of the last of them
+-- how many blocks a table has, and the number after that of the last of them
 abbrev pub blocks_of : (pack : ℕ) → Listed → ℕ
 blocks_of pack t = blocks_for pack t.table.heading.capacity
 
@@ -72,12 +72,12 @@ are_apart pack t u =
     && not (t.table.region == u.table.region)
     && (nat_le (end_of pack t) u.number || nat_le (end_of pack u) t.number)
 
--- a table that may be listed behind these
+-- a table that may be listed after these
 pub record GoesOn (closing : Closing) (before : List Listed) (t : Listed) : Type 0 where
   pub listed : IsListed closing t
   pub apart : IsTrue (list_all (λ u. are_apart closing.pack u t) before)
 
--- each may be listed behind those before it
+-- each may be listed after those before it
 pub record AreListed (closing : Closing) (listed : List Listed) : Type 0 where
   pub each : (i : ℕ) (t : Listed) → slice_get listed i ≡ Some t → GoesOn closing (take i listed) t
 

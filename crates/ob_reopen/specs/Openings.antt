@@ -10,7 +10,7 @@ use Rattle.ob_vault.specs.declared.fault.VaultErr.{VaultErr}
 use Rattle.ob_vault.specs.declared.fault.VaultErr.TheVariants as VaultErrs
 use Rattle.ob_vault.specs.State.{World, from_earlier}
 use Rattle.ob_vault.specs.Numbers.{spent}
-use Rattle.ob_vault.specs.Tied.{Ready, Lives, Written, OnTurn, Holds, Calm, EndsAt}
+use Rattle.ob_vault.specs.Tied.{Ready, Lives, Written, OnTurn, Holds, Untampered, EndsAt}
 use Rattle.ob_vault.specs.Calls.{Seals, EndsRead, Unfit, Unsealed, none, one}
 use Rattle.ob_vault.specs.Resuming.{Unasked, Stays, KeptSealed, open_at}
 use Rattle.ob_vault.specs.Words.{IsHonest, SealsAll}
@@ -30,18 +30,18 @@ open_error VaultErrs.NoMemory = NoMemory
 
 -- each error's cause: `Failed` comes only where the store's faults rose, and no other where they did
 abbrev pub OpenCause : OpenErr → World → World → Type 0
-OpenCause Failed old new = Rises old.store.faults new.store.faults × (Calm old → Calm new)
+OpenCause Failed old new = Rises old.store.faults new.store.faults × (Untampered old → Untampered new)
 OpenCause (Tampered q x) old new =
     (new.store.faults ≡ old.store.faults) × EndsRead q x new
-    × (Calm old → Calm new ⊎ EndsAt q x new)
-OpenCause NoMemory old new = (new.store.faults ≡ old.store.faults) × (Calm old → Calm new)
+    × (Untampered old → Untampered new ⊎ EndsAt q x new)
+OpenCause NoMemory old new = (new.store.faults ≡ old.store.faults) × (Untampered old → Untampered new)
 
--- all of the script was asked, and nothing but these regions has changed
+-- all of the script was asked, and nothing except these regions has changed
 pub record OpensAll (script : List Access) (some : ℕ → Type 0) (old new : World) : Type 0 where
   pub stays : Stays some old new
   pub did : Did script old.store new.store
   pub spare : old.store.spare ≤ new.store.spare + length script
-  pub calm : Calm old → Calm new
+  pub calm : Untampered old → Untampered new
 
 -- a first part of it was asked, an access at least unless memory was wanted
 pub record OpensPart (e : OpenErr) (script : List Access) (some : ℕ → Type 0)
@@ -82,7 +82,7 @@ pub record AwaitsTables (closing : Closing) (w : World) : Type 0 where
   pub unasked : (q : ℕ) → q ≢ closing.region → Unasked q w.store.asked
   pub gone : (q : ℕ) → q ≢ closing.region → w.store.live q ≡ None
 
--- bytes of a row that may stand at a place of the closing behind those that list these tables
+-- bytes of a row that may stand at a place of the closing after those that list these tables
 abbrev pub IsRowAt : Closing → List Listed → ℕ → List ℕ → Type 0
 IsRowAt closing before zero bytes = bytes ≡ head_text (closing.region + 1) (closing.blocks - 1)
 IsRowAt closing before (suc p) bytes =
@@ -93,7 +93,7 @@ pub record AddsHead (closing : Closing) (bytes : List ℕ) (before after : List 
   pub is : bytes ≡ head_text (closing.region + 1) (closing.blocks - 1)
   pub same : after ≡ before
 
--- a table was read that may be listed behind these, and the bytes are those of no other such table
+-- a table was read that may be listed after these, and the bytes are those of no other such table
 pub record AddsTable (closing : Closing) (bytes : List ℕ) (before after : List Listed) : Type 0 where
   pub table : Listed
   pub on : GoesOn closing before table

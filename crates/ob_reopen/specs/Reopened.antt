@@ -7,7 +7,7 @@ use Rattle.ob_base.specs.declared.config.Config.{Config}
 use Rattle.ob_base.specs.declared.config.Public.{Public}
 use Rattle.ob_seal.specs.KeySet.{KeySet}
 use Rattle.ob_store.specs.Runs.{Began}
-use Rattle.ob_store.specs.State.{Lie, StoreState}
+use Rattle.ob_store.specs.State.{FalseRead, StoreState}
 use Rattle.ob_vault.specs.State.{Start}
 use Rattle.ob_vault.specs.Tied.{TagFits}
 use Rattle.ob_reopen.specs.declared.closing.Closing.{Closing}
@@ -17,7 +17,7 @@ use Rattle.ob_reopen.specs.declared.listed.Listed.{Listed}
 use Rattle.ob_reopen.specs.Closings.{open_script, read_script}
 use Rattle.ob_reopen.specs.Limits.{IsCatalogue, blocks_of}
 
--- what is public of an engine that is opened: the tables that are listed, the region behind the closing's as the next, and
+-- what is public of an engine that is opened: the tables that are listed, the region after the closing's as the next, and
 -- where they are saved the closing's
 abbrev pub opened_public : Config → Closing → List Listed → Public
 opened_public config closing listed = record {
@@ -71,6 +71,6 @@ pub record NotOpened (closing : Closing) (keys : KeySet) (e : OpenErr)
   pub catalogue : IsCatalogue closing listed ⊎ (listed ≡ [])
   pub began : Began (opening_script closing listed) s t
   pub cause : OpeningCause e closing s t
-  pub tampered : (lie : Lie) → t.lie ≡ Some lie → ¬ TagFits keys (opened_start closing listed) lie
+  pub tampered : (lie : FalseRead) → t.lie ≡ Some lie → ¬ TagFits keys (opened_start closing listed) lie
       → (e ≡ Tampered lie.region lie.place)
       × (t.asked ≡ lie.before ++ Read lie.region lie.place ∷ [])

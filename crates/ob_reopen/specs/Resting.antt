@@ -63,7 +63,7 @@ AreKept keys pack (t ∷ ts) (held ∷ tables) kept =
 
 -- between runs these tables in place rest in a store: the closing lists them by their names, each region is kept, and
 -- their primary keys are distinct; all are flat, so that they are in place whatever the slots of a stash are
-pub record Rests (keys : KeySet) (closing : Closing) (kept : ℕ → Option KeptRegion)
+pub record IsAtRest (keys : KeySet) (closing : Closing) (kept : ℕ → Option KeptRegion)
     (tables : Tables) : Type 0 where
   pub listed : List Listed
   pub closing_is : IsClosing keys closing listed kept

@@ -5,7 +5,7 @@ use Rattle.ob_seal.specs.KeySet.{IsOfOne, KeySet, pair_of}
 use Rattle.ob_seal.specs.Sealed.{AreOfSecret, keys_salted}
 use Rattle.ob_seal.specs.declared.Salted.{Salted}
 use Rattle.ob_store.specs.State.{KeptRegion}
-use Rattle.ob_reopen.specs.Resting.{IsNeeded, Rests}
+use Rattle.ob_reopen.specs.Resting.{IsNeeded, IsAtRest}
 use Rattle.ob_reopen.specs.declared.closing.Closing.{Closing}
 use Rattle.ob_reopen.specs.declared.listed.Listed.{Listed}
 
@@ -31,5 +31,5 @@ pub record RestsBy (secret : List ℕ) (closed : Option (List ℕ)) (closing : C
   pub keys : KeySet
   pub of : AreOfSecret secret keys
   pub own : closed ≡ (pair_of keys closing.region).salt
-  pub rests : Rests keys closing kept tables
+  pub rests : IsAtRest keys closing kept tables
   pub ones : (q : ℕ) → IsNeeded closing rests.listed q → IsOfOne keys q

@@ -10,7 +10,7 @@ use Rattle.ob_base.specs.Schemas.{Columns}
 use Rattle.ob_seal.specs.Sealed.{IsSalt}
 use Rattle.ob_reopen.specs.declared.listed.Listed.{Listed}
 
--- a name behind its length, with zeros up to 32 bytes
+-- a name after its length, with zeros up to 32 bytes
 abbrev pub name_text : List ℕ → List ℕ
 name_text name = length name ∷ (name ++ replicate (32 - length name) 0)
 
@@ -36,7 +36,7 @@ abbrev pub salt_text : Option (List ℕ) → List ℕ
 salt_text None = replicate 17 0
 salt_text (Some salt) = 1 ∷ salt
 
--- a table: its name, region and capacity, the write number of its first block, its columns behind their number, and the
+-- a table: its name, region and capacity, the write number of its first block, its columns after their number, and the
 -- salt of its run; where that had none the row is what it was before there were salts
 unfoldable pub table_text : Listed → List ℕ
 table_text t =

@@ -41,7 +41,7 @@ pub record HasBlock (region : ℕ) (revs : RevState) : Type 0 where
 abbrev pub is_before : Listed → Listed → Bool
 is_before t u = is_lt (slice_cmp nat_cmp u.table.heading.name t.table.heading.name)
 
--- it is put behind the first ones that have a smaller name
+-- it is put after the first ones that have a smaller name
 abbrev pub placed : List Listed → Listed → List Listed
 placed listed t = insert listed (prefix_len (is_before t) listed) t
 

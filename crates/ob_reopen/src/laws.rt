@@ -15,7 +15,7 @@ ghost use Rattle.ob_reopen.specs.declared.fault.OpenErr.{OpenErr};
 ghost use Rattle.ob_reopen.specs.declared.listed.Listed.{Listed};
 ghost use Rattle.ob_reopen.specs.Limits.{IsCatalogue};
 ghost use Rattle.ob_reopen.specs.Openings.{ReadsClosing};
-ghost use Rattle.ob_reopen.specs.Resting.{IsNeeded, Rests, by_name};
+ghost use Rattle.ob_reopen.specs.Resting.{IsNeeded, IsAtRest, by_name};
 ghost use Rattle.ob_reopen.specs.Saved.{RestsBy, reopening_keys};
 ghost use Rattle.ob_reopen.specs.Writings.{MayList, ListsAll, catalogue_of};
 ghost use Rattle.ob_verdict.specs.Alike.{AreAlike};
@@ -49,34 +49,34 @@ pub fn names_order_tables()
 /// What rests in a store for a mark outlasts whatever leaves the regions that the mark needs as they are kept.
 pub fn rests_outlast()
     ensures { (keys : KeySet) (closing : Closing) (old new : ℕ → Option KeptRegion)
-        (tables : Tables) (rests : Rests keys closing old tables)
+        (tables : Tables) (rests : IsAtRest keys closing old tables)
         → ((q : ℕ) → IsNeeded closing rests.listed q → new q ≡ old q)
-        → Rests keys closing new tables }
+        → IsAtRest keys closing new tables }
 {}
 
 /// What rests under some keys rests under others that are the same for the closing's region and for those of its
 /// tables.
 pub fn tables_keep_keys()
     ensures { (k l : KeySet) (kept : ℕ → Option KeptRegion) (closing : Closing) (tables : Tables)
-        (rests : Rests k closing kept tables)
+        (rests : IsAtRest k closing kept tables)
         → AreAlikeKeys k l closing.region
         → ((i : ℕ) (t : Listed) → slice_get rests.listed i ≡ Some t
-        → AreAlikeKeys k l t.table.region) → Rests l closing kept tables }
+        → AreAlikeKeys k l t.table.region) → IsAtRest l closing kept tables }
 {}
 
 /// What rests under keys of a secret rests under those of each run of the secret that goes on from it, whatever its
 /// salt is: by the salts that the mark and the closing name. So it is of what a run without a salt closed, and of what
-/// one with a salt saved in a region that comes behind those of earlier runs.
+/// one with a salt saved in a region that comes after those of earlier runs.
 pub fn tables_rest_by_salts()
     ensures under { (secret salt : List ℕ) (closed : Option (List ℕ)) (closing : Closing)
         (kept : ℕ → Option KeptRegion) (tables : Tables)
         (by : RestsBy secret closed closing kept tables)
-        → Rests (reopening_keys secret salt closed closing by.rests.listed) closing kept tables }
+        → IsAtRest (reopening_keys secret salt closed closing by.rests.listed) closing kept tables }
     ensures plain { (secret : List ℕ) (closing : Closing) (kept : ℕ → Option KeptRegion)
-        (tables : Tables) → Rests (keys_of secret) closing kept tables
+        (tables : Tables) → IsAtRest (keys_of secret) closing kept tables
         → RestsBy secret None closing kept tables }
     ensures salted { (secret salt : List ℕ) (earlier : List Salted) (closing : Closing)
         (kept : ℕ → Option KeptRegion) (tables : Tables) → AreBefore closing.region earlier
-        → Rests (keys_salted secret salt earlier) closing kept tables
+        → IsAtRest (keys_salted secret salt earlier) closing kept tables
         → RestsBy secret (Some salt) closing kept tables }
 {}

@@ -108,7 +108,7 @@ pub(crate) fn blocks_of(pack: u8, listed: &Listed) -> u32
     listed.table.heading.capacity.div_ceil(u32::from(pack))
 }
 
-// The number behind that of a table's last block.
+// The number after that of a table's last block.
 fn end_of(pack: u8, listed: &Listed) -> u64
     requires pack { 1 ≤ pack }
     requires few { end_of pack listed.now < 2 ^ 64 }
@@ -161,7 +161,7 @@ fn all_apart(pack: u8, before: &[Listed], listed: &Listed) -> bool
     }
 }
 
-/// Whether a table may be listed behind these.
+/// Whether a table may be listed after these.
 pub(crate) fn goes_on(closing: Closing, before: &[Listed], listed: &Listed) -> bool
     requires marked { IsMarked closing }
     requires before { AreListed closing before.now }

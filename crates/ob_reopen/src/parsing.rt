@@ -38,7 +38,7 @@ fn int_in(field: &[u8]) -> u32
     u32::from_be_bytes(bytes)
 }
 
-// The name behind its length; what follows it isn't looked at.
+// The name after its length; what follows it isn't looked at.
 fn name_in(field: &[u8]) -> Option<Name>
     requires { length field.now ≡ 33 }
     ensures { (name : List ℕ) → length name ≤ 32 → field.now ≡ name_text name
@@ -201,7 +201,7 @@ pub(crate) fn is_head(closing: Closing, text: &[u8]) -> bool
     text == head.as_slice()
 }
 
-/// The table that these bytes list behind those before it, if they list one.
+/// The table that these bytes list after those before it, if they list one.
 pub(crate) fn next_table(closing: Closing, before: &[Listed], text: &[u8]) -> Option<Listed>
     requires size { length text.now ≡ 1024 }
     requires marked { IsMarked closing }

@@ -13,7 +13,7 @@ use crate::listed::Listed;
 use crate::parsing::{is_head, next_table};
 use crate::spelling::TEXT_LEN;
 use ob_base::Items;
-use ob_room::{ClearRow, Room};
+use ob_room::{ClearRow, RowBuffer};
 use ob_store::{BlockStore, Lasting};
 use ob_vault::{Order, Revisions, Vault};
 use std::alloc::Global;
@@ -114,7 +114,7 @@ pub fn read_closing<S: Lasting, R: Revisions>(
     alloc: Global,
     store: &mut S,
     vault: &mut Vault<R>,
-    room: &mut Room,
+    room: &mut RowBuffer,
     closing: Closing,
 ) -> Result<Items<Listed>, OpenErr>
     requires marked { IsMarked closing }

@@ -8,7 +8,7 @@ use ob_base::{Column, Kind, Name};
 /// The bytes of a row of a closing.
 pub(crate) const TEXT_LEN: usize = 1_024;
 
-// Writes a name behind its length, and zeros up to the end.
+// Writes a name after its length, and zeros up to the end.
 fn put_name(name: &Name, field: &mut [u8])
     requires { length field.old ≡ 33 }
     ensures { field.new ≡ name_text name.now }
@@ -94,7 +94,7 @@ pub(crate) fn put_table(listed: &Listed, text: &mut [u8])
     put_salt(listed.salt, salt);
 }
 
-/// Writes the head of a closing of `count` tables, behind which `next` is the number of the next region.
+/// Writes the head of a closing of `count` tables, after which `next` is the number of the next region.
 #[tactic(auto, unfolding(crate::specs::Spelling::head_text))]
 pub(crate) fn put_head(next: u64, count: u32, text: &mut [u8])
     requires { length text.old ≡ 1024 }

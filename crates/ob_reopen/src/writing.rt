@@ -14,7 +14,7 @@ use crate::closing::Closing;
 use crate::fault::{CloseErr, close_error};
 use crate::listed::Listed;
 use crate::spelling::{TEXT_LEN, put_head, put_table};
-use ob_room::{ClearRow, Room};
+use ob_room::{ClearRow, RowBuffer};
 use ob_store::BlockStore;
 use ob_vault::{Order, Revisions, Vault, VaultErr};
 
@@ -34,7 +34,7 @@ fn put_text(region: u64, listed: &[Listed], place: u32, text: &mut [u8])
     }
 }
 
-// The same, and zeros behind it.
+// The same, and zeros after it.
 fn fill_row(region: u64, listed: &[Listed], place: u32, bytes: &mut [u8])
     requires region { region < 2 ^ 64 - 1 }
     requires few { length listed.now ≤ 64 }
@@ -133,7 +133,7 @@ fn close_rows<S: BlockStore, R: Revisions>(
 pub fn write_closing<S: BlockStore, R: Revisions>(
     store: &mut S,
     vault: &mut Vault<R>,
-    room: &mut Room,
+    room: &mut RowBuffer,
     listed: &[Listed],
 ) -> Result<Closing, CloseErr>
     requires asks { MayAsk (2 + length listed.now)

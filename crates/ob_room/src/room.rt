@@ -13,7 +13,7 @@ use std::marker::Model;
 /// It has a fixed number of rows. Each is free, or out with the caller, or out and on the shelf, a list from
 /// which passes work. A row that comes back is overwritten with zeros, so a row that is taken is zero. Only
 /// `new` takes memory.
-pub struct Room {
+pub struct RowBuffer {
     free: Vec<FreeRow>,
     shelf: Vec<ClearRow>,
     rows: u32,
@@ -22,7 +22,7 @@ pub struct Room {
     high: u64,
 }
 
-impl Model for Room {
+impl Model for RowBuffer {
     ghost use Rattle.ob_room.specs.RoomState.{RoomState};
 
     ghost Value = { RoomState };
@@ -41,13 +41,13 @@ impl Model for Room {
     ghost invariant = { IsRoom };
 }
 
-impl Room {
+impl RowBuffer {
     ghost use Rattle.ob_room.specs.LendingRow.{LendsRow};
     ghost use Rattle.ob_room.specs.LendingOpen.{LendsOpen};
     ghost use Rattle.ob_room.specs.Shelf.{ShelvesClear, cleared, AreWide, IsSound};
 
     /// A room of `rows` rows, each `width` bytes wide and all free, for blocks of `pack` rows (1 to 16).
-    pub fn new(alloc: Global, rows: u32, width: u32, pack: u32) -> Result<Room, NoMemory>
+    pub fn new(alloc: Global, rows: u32, width: u32, pack: u32) -> Result<RowBuffer, NoMemory>
         requires pack { (1 ≤ pack) × (pack ≤ 16) }
         ensures { IfOk result (λ r. r ≡ record {
           rows = rows;
@@ -58,14 +58,14 @@ impl Room {
           high = 0;
         }) }
     {
-        match Room::built(alloc, rows, width, pack) {
+        match RowBuffer::built(alloc, rows, width, pack) {
             Ok(room) => Ok(room),
             Err(_) => Err(NoMemory),
         }
     }
 
     // The same, with the allocator's error.
-    fn built(alloc: Global, rows: u32, width: u32, pack: u32) -> Result<Room, AllocError>
+    fn built(alloc: Global, rows: u32, width: u32, pack: u32) -> Result<RowBuffer, AllocError>
         requires pack { (1 ≤ pack) × (pack ≤ 16) }
         ensures { IfOk result (λ r. r ≡ record {
           rows = rows;
@@ -82,7 +82,7 @@ impl Room {
                 bytes: Vec::from_elem(alloc, 0, width as usize)?,
             })?;
         }
-        Ok(Room {
+        Ok(RowBuffer {
             free,
             shelf: Vec::with_capacity(alloc, rows as usize)?,
             rows,
@@ -222,9 +222,9 @@ impl Room {
     }
 }
 
-impl Drop for Room {
+impl Drop for RowBuffer {
     fn drop(self) {
-        let Room {
+        let RowBuffer {
             free: _free,
             mut shelf,
             rows: _,

@@ -90,7 +90,7 @@ row_bytes-not_dummy s a e = not_dummy (sum_by (λ (c : Column). kind_width c.kin
   not_dummy : (n : ℕ) (bs : List ℕ) → 1 ∷ bs ≡ replicate (1 + n) 0 → ⊥
   not_dummy n bs e = let f : 1 ∷ bs ≡ replicate (suc n) 0 = rw one-add at e in cc
 
--- what stands behind a row doesn't count
+-- what stands after a row doesn't count
 pub row_bytes-begin : (s : Columns) (a : Row) (behind : List ℕ) → FitsColumns s a → Begins s (Some a) (row_bytes s a ++ behind)
 row_bytes-begin s a behind h =
     record { fits = h; is = ap (λ n. take n (row_bytes s a ++ behind)) (sym (length-row_bytes s a h)) ∙ take-append_seam (row_bytes s a) behind }

@@ -37,7 +37,7 @@ FitsColumns [] (x ∷ xs) = ⊥
 FitsColumns (c ∷ cs) [] = ⊥
 FitsColumns (c ∷ cs) (x ∷ xs) = FitsKind c.kind x × FitsColumns cs xs
 
--- an integer in two's complement, its highest byte first; a text behind its length, with zeros up to n bytes
+-- an integer in two's complement, its highest byte first; a text after its length, with zeros up to n bytes
 abbrev pub cell_bytes : Kind → Cell → List ℕ
 cell_bytes IntKind (Int x) = to_be_bytes w64 (cast_unsigned w64 x)
 cell_bytes IntKind (Text t) = []
@@ -70,6 +70,6 @@ pub record Spells (columns : Columns) (slot : Option Row) (bytes : List ℕ) : T
   pub fits : IfSome slot (FitsColumns columns)
   pub is : bytes ≡ slot_bytes columns slot
 
--- the first bytes, as many as a row has, spell it; what stands behind them doesn't count
+-- the first bytes, as many as a row has, spell it; what stands after them doesn't count
 abbrev pub Begins : Columns → Option Row → List ℕ → Type 0
 Begins columns slot bytes = Spells columns slot (take (width columns) bytes)

@@ -51,7 +51,7 @@ fn put_cells(columns: &[Column], cells: &[Cell], fields: &mut [u8])
     }
 }
 
-/// Writes a row's bytes, and zeros behind them.
+/// Writes a row's bytes, and zeros after them.
 pub fn encode(schema: &Schema, cells: &[Cell], row: &mut ClearRow)
     requires fits { FitsColumns schema.now cells.now }
     requires wide { width schema.now ≤ length row.old }

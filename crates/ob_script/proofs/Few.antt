@@ -6,7 +6,7 @@ use Rattle.ob_base.specs.declared.access.Access.{Access}
 use Rattle.ob_base.specs.declared.schema.Table.{Table}
 use Rattle.ob_base.specs.declared.seen.Seen.{Seen}
 use Rattle.ob_base.specs.declared.seen.End.{End}
-use Rattle.ob_base.specs.declared.seen.End.TheVariants.{Static, Whole, AfterCount, Joined, Cut}
+use Rattle.ob_base.specs.declared.seen.End.TheVariants.{Static, Whole, AfterCount, Batched, Cut}
 use Rattle.ob_base.specs.declared.skeleton.Source.{Source}
 use Rattle.ob_base.specs.declared.skeleton.Source.TheVariants.{Table as OneTable, Join}
 use Rattle.ob_base.specs.declared.skeleton.Skeleton.{Skeleton}
@@ -33,7 +33,7 @@ use Rattle.ob_base.specs.Plans.{choose_padded, padded_rows}
 use Rattle.ob_base.specs.Numbers.{blocks_for}
 use Rattle.ob_script.specs.declared.extent.Extent.{Extent}
 use Rattle.ob_script.specs.Parts.{closing_part, count_part, create_part, insert_part, rewrite_part, emission_part, join_part}
-use Rattle.ob_script.specs.Script.{Behind, behind_change, closing_behind, created_script, dropped_script, extent_of, flat_script, index_part_of, shape_script, with_table, mutation_script, joined_extent, table_script, join_script, source_script, whole_script, until_end, save_part, script, select_part, after_count, behind_count, padded_part, plan_part, result_part, result_blocks, blocks_of, rows_width}
+use Rattle.ob_script.specs.Script.{FollowUp, behind_change, closing_behind, created_script, dropped_script, extent_of, flat_script, index_part_of, shape_script, with_table, mutation_script, joined_extent, table_script, join_script, source_script, whole_script, until_end, save_part, script, select_part, after_count, behind_count, padded_part, plan_part, result_part, result_blocks, blocks_of, rows_width}
 use Rattle.ob_script.specs.Tables.{moved, moved_to, tables_after}
 use Rattle.ob_script.specs.Sizes.{IfFlat, IsHeld, IsPublic, IsCounted, IsTable, IfTable, IsSourceCounted, IsWithin}
 use Rattle.ob_script.proofs.Leaves.{blocks_few as tree_few}
@@ -197,12 +197,12 @@ behind_few p s left h = go p.save refl
         let two = dropped_one p.closing in
         omega (arith, all, closing, discards, few, listed, one, two)
 
-rewrite_few : (p : Public) (behind : Behind) (t : Stored ℕ) → IsPublic p → IsStored t → length (behind (Some t.held)) ≤ 2 ^ 12 → length (mutation_script p rewrite_part behind t) ≤ 2 ^ 40
+rewrite_few : (p : Public) (behind : FollowUp) (t : Stored ℕ) → IsPublic p → IsStored t → length (behind (Some t.held)) ≤ 2 ^ 12 → length (mutation_script p rewrite_part behind t) ≤ 2 ^ 40
 rewrite_few p behind t h few less =
     let e = length-rewrite_part t.held p.next_region (blocks_of p (extent_of t)) (rows_width p (extent_of t)) (behind (Some t.held)) in
     let b = blocks_few p.pack t.heading.capacity h.pack_some (let c = few.capacity in omega arith) in omega arith
 
-insert_few : (p : Public) (behind : Behind) (t : Stored ℕ) → IsPublic p → IsStored t → length (behind (Some t.held)) ≤ 2 ^ 12 → length (mutation_script p insert_part behind t) ≤ 2 ^ 40
+insert_few : (p : Public) (behind : FollowUp) (t : Stored ℕ) → IsPublic p → IsStored t → length (behind (Some t.held)) ≤ 2 ^ 12 → length (mutation_script p insert_part behind t) ≤ 2 ^ 40
 insert_few p behind t h few less =
     let e = length-insert_part t.held p.next_region (blocks_of p (extent_of t)) (rows_width p (extent_of t)) (behind (Some t.held)) in
     let b = blocks_few p.pack t.heading.capacity h.pack_some (let c = few.capacity in omega arith) in omega arith
@@ -251,7 +251,7 @@ mutation_few p leaf table f h flat =
     of_table table p (shape_script p leaf f) (2 ^ 40) IsStored (stored-sized table p.tables h.tables)
     (λ t few. either_few t.heading.shape (f t) (index_part_of p leaf t) (2 ^ 40) (flat t few) (let e = index_few p leaf t h few in omega arith))
 
-created_few : (p : Public) (n width : ℕ) (behind : Behind) (shape : Shape) → IsPublic p → n ≤ 2 ^ 20 → length (behind None) ≤ 2 ^ 12 → length (created_script p n width behind shape) < 2 ^ 49
+created_few : (p : Public) (n width : ℕ) (behind : FollowUp) (shape : Shape) → IsPublic p → n ≤ 2 ^ 20 → length (behind None) ≤ 2 ^ 12 → length (created_script p n width behind shape) < 2 ^ 49
 created_few p n width behind Flat h few less =
     let a = length-append (create_part p.next_region (blocks_for p.pack n) (p.pack * width)) (behind None) in
     let e = length-create_part p.next_region (blocks_for p.pack n) (p.pack * width) in
@@ -261,7 +261,7 @@ created_few p n width behind Indexed h few less =
     let s = h.stash in
     let b = tree_few (height_of n) (height_few n few) in omega arith
 
-dropped_few : (behind : Behind) (t : Stored ℕ) → length (behind (Some t.held)) ≤ 2 ^ 12 → length (dropped_script behind t) ≤ 2 ^ 12
+dropped_few : (behind : FollowUp) (t : Stored ℕ) → length (behind (Some t.held)) ≤ 2 ^ 12 → length (dropped_script behind t) ≤ 2 ^ 12
 dropped_few behind t less = either_few t.heading.shape (behind (Some t.held)) (discard_at t.held ++ discard_at (t.held + 1)) (2 ^ 12) less (omega arith)
 
 source_few : (p : Public) (source : Source) (seen : Seen) → IsPublic p → IsSourceCounted p seen source → length (source_script p seen source) < 2 ^ 49
@@ -308,5 +308,5 @@ script_few p s seen h w = go seen.end w where
   go Static w = omega arith
   go Whole w = whole_few p s seen h (w (λ e. cc))
   go AfterCount w = whole_few p s seen h (w (λ e. cc))
-  go Joined w = omega arith
+  go Batched w = omega arith
   go (Cut n) w = let m = whole_few p s seen h (w (λ e. cc)) in omega (arith, length-take n (whole_script p s seen))

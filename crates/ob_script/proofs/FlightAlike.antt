@@ -23,7 +23,7 @@ way_acted : (act : Option Access) (f : Flying) → way_of (acted act f) ≡ way_
 way_acted None f = refl
 way_acted (Some access) f = refl
 
--- they differ in nothing but what is seen of them
+-- they differ in nothing except what is seen of them
 same_as : (f g : Flying) → way_of f ≡ way_of g → seen_as g.served f ≡ g
 same_as f g way = λ i. record { served = g.served; asked = (way i).asked; region = (way i).region; ended = (way i).ended }
 

@@ -81,14 +81,14 @@ of_padded = refl
 abbrev totals : Served
 totals = whole (Groups (codes "t") [] None)
 
--- one of three rows, which the store failed at its seventh access, behind its count and its make
+-- one of three rows, which the store failed at its seventh access, after its count and its make
 abbrev failed : Served
 failed = record { skeleton = Rows (OneTable (codes "t")) None; seen = record { k = Some 3; plan = Some Small; then = None; leaf = None; end = Cut 7 } }
 
 abbrev roomy : Option ℕ → Public
 roomy pad = after_all (start_with 1 16 pad) four
 
--- one that is refused, one of no rows, one of totals, and that one: each but the first counts, and the last makes a region
+-- one that is refused, one of no rows, one of totals, and that one: each except the first counts, and the last makes a region
 pub of_four : merge (roomy None) (refused ∷ none ∷ totals ∷ failed ∷ []) (drawn 11) ≡
     Read 5 0 ∷ Read 5 0 ∷ Read 5 0 ∷ Read 5 1 ∷ Read 5 2 ∷ Read 5 3 ∷ Read 5 1 ∷ Read 5 2 ∷ Read 5 1 ∷ Read 5 2 ∷ Read 5 3 ∷ Read 5 3 ∷ Make 6 3 49 ∷ Read 5 0 ∷ Read 5 1 ∷ []
 unfolding makes runnable turn turns turns_for draw

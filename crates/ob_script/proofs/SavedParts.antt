@@ -7,7 +7,7 @@ use Rattle.ob_base.specs.declared.access.Access.{Access}
 use Rattle.ob_base.specs.declared.config.Public.{Public}
 use Rattle.ob_base.specs.declared.seen.Seen.{Seen}
 use Rattle.ob_base.specs.declared.seen.End.{End}
-use Rattle.ob_base.specs.declared.seen.End.TheVariants.{Static, Whole, AfterCount, Joined, Cut}
+use Rattle.ob_base.specs.declared.seen.End.TheVariants.{Static, Whole, AfterCount, Batched, Cut}
 use Rattle.ob_base.specs.declared.schema.Shape.{Shape}
 use Rattle.ob_base.specs.declared.skeleton.Skeleton.{Skeleton}
 use Rattle.ob_base.specs.declared.skeleton.Skeleton.TheVariants.{Create, Insert, Update, Delete, Drop as DropTable, Rows, Groups}
@@ -19,7 +19,7 @@ use Rattle.ob_base.specs.Schemas.{columns_of, width}
 use Rattle.ob_base.specs.Stored.{Stored}
 use Rattle.ob_script.specs.Parts.{closing_part, copy_part, count_part, create_part, insert_part, rewrite_part}
 use Rattle.ob_script.specs.Saved.{ChangesFlat, HasFlat, left_by, left_region, region_at, run_next, run_script, saved_public, whole_run}
-use Rattle.ob_script.specs.Script.{Behind, blocks_of, changes_tables, closing_behind, closing_then, created_script, dropped_script, extent_of, index_part_of, made_by, mutation_script, rows_width, save_part, script, shape_script, until_end, whole_by, whole_script, with_table}
+use Rattle.ob_script.specs.Script.{FollowUp, blocks_of, changes_tables, closing_behind, closing_then, created_script, dropped_script, extent_of, index_part_of, made_by, mutation_script, rows_width, save_part, script, shape_script, until_end, whole_by, whole_script, with_table}
 use Rattle.ob_script.specs.Tables.{tables_after, tables_then}
 use Rattle.ob_script.specs.Trace.{next}
 use Rattle.ob_script.proofs.Makes.{makes-closing_part, makes-create_part, makes-drop_script, makes-insert_part, makes-rewrite_part}
@@ -35,7 +35,7 @@ rewrite_more t g blocks width behind =
     ap (λ (l : List Access). make_at g blocks width ++ (l ++ behind)) (sym (append-nil (copy_part t g blocks)))
 
 -- ---- of a flat table that there is
-abbrev followed_by : List Access → Behind
+abbrev followed_by : List Access → FollowUp
 followed_by l left = l
 
 module _ (p : Public) (name : List ℕ) (has : HasFlat name p) where
@@ -44,7 +44,7 @@ module _ (p : Public) (name : List ℕ) (has : HasFlat name p) where
       ap (λ (o : Option (Stored ℕ)). option_map_or (shape_script p leaf f) o []) has.found
       ∙ ap (λ (s : Shape). by_shape s (f has.table) (index_part_of p leaf has.table)) has.flat
 
-  drop_is : (behind : Behind) → with_table name p (dropped_script behind) ≡ behind (Some has.table.held)
+  drop_is : (behind : FollowUp) → with_table name p (dropped_script behind) ≡ behind (Some has.table.held)
   drop_is behind =
       ap (λ (o : Option (Stored ℕ)). option_map_or (dropped_script behind) o []) has.found
       ∙ ap (λ (s : Shape). by_shape s (behind (Some has.table.held)) (discard_at has.table.held ++ discard_at (has.table.held + 1))) has.flat

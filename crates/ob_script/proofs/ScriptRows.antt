@@ -10,7 +10,7 @@ use Rattle.ob_base.specs.declared.config.Plan.{Plan}
 use Rattle.ob_base.specs.declared.config.Plan.TheVariants.{Small, Large, Continuous, Hash}
 use Rattle.ob_base.specs.declared.config.Planner.TheVariants.{Auto}
 use Rattle.ob_base.specs.declared.schema.Shape.TheVariants.{Flat, Indexed}
-use Rattle.ob_base.specs.declared.seen.End.TheVariants.{Whole, AfterCount, Joined, Cut}
+use Rattle.ob_base.specs.declared.seen.End.TheVariants.{Whole, AfterCount, Batched, Cut}
 use Rattle.ob_base.specs.declared.skeleton.NewKind.TheVariants.{Int as NewInt}
 use Rattle.ob_base.specs.declared.skeleton.NewColumn.{NewColumn}
 use Rattle.ob_base.specs.declared.skeleton.ColumnName.{ColumnName}
@@ -43,7 +43,7 @@ abbrev insert_in : List ℕ → Served
 insert_in name = whole (Insert name None)
 
 abbrev joined_in : List ℕ → Served
-joined_in name = record { skeleton = Insert name None; seen = record { k = None; plan = None; then = None; leaf = None; end = Joined } }
+joined_in name = record { skeleton = Insert name None; seen = record { k = None; plan = None; then = None; leaf = None; end = Batched } }
 
 -- with four inserts in t, and two in u
 abbrev four : List Served
@@ -198,7 +198,7 @@ index_accessed : after_setup with_stash (create_o ∷ []) (access_o 2) ≡
 unfolding makes
 index_accessed = refl
 
--- it lies where it lay, and the next table behind both of its regions
+-- it lies where it lay, and the next table after both of its regions
 index_stays : after_setup with_stash (create_o ∷ access_o 2 ∷ create_t ∷ []) (whole (DropTable (codes "o"))) ≡ Discard 1 ∷ Discard 2 ∷ []
 unfolding makes
 index_stays = refl

@@ -1,4 +1,4 @@
--- Parts that share out a total, as many for each but the last.
+-- Parts that share out a total, as many for each except the last.
 use Rattle.std.proofs.Common.{◌≡◌, ℕ, zero, suc, ◌+◌, ◌-◌, ◌*◌, ◌/◌, ◌%◌, ◌<◌, ◌≤◌, min, List, length, sym, ◌∙◌, ap, subst, arith}
 use Rattle.std.specs.Int.{div_ceil}
 use Rattle.std.proofs.lemmas.List.{length-append}
@@ -34,7 +34,7 @@ whole q total pos = let d = div_ceil_times total q pos in omega (arith, d.0)
 pub length-shares : {A : Type 0} (f : ℕ → List A) (a b q total : ℕ) → Shares f a b q total → 0 < q → length (each (div_ceil total q) f) ≡ div_ceil total q * a + b * total
 length-shares f a b q total h pos = length-each_shares f a b q total (div_ceil total q) h ∙ ap (λ w. div_ceil total q * a + b * w) (whole q total pos)
 
--- all but the last of them have a whole share
+-- all except the last of them have a whole share
 full : (q total v : ℕ) → 0 < q → v + 1 < div_ceil total q → min q (total - v * q) ≡ q
 full q total v pos l =
     let d = div_ceil_times total q pos in

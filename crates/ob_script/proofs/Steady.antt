@@ -15,7 +15,7 @@ use Rattle.ob_base.specs.declared.schema.Shape.{Shape}
 use Rattle.ob_base.specs.declared.schema.Shape.TheVariants.{Flat, Indexed}
 use Rattle.ob_base.specs.declared.seen.Seen.{Seen}
 use Rattle.ob_base.specs.declared.seen.End.{End}
-use Rattle.ob_base.specs.declared.seen.End.TheVariants.{Static, Whole, AfterCount, Joined, Cut}
+use Rattle.ob_base.specs.declared.seen.End.TheVariants.{Static, Whole, AfterCount, Batched, Cut}
 use Rattle.ob_base.specs.declared.skeleton.Source.TheVariants.{Table as OneTable, Join}
 use Rattle.ob_base.specs.declared.skeleton.Skeleton.{Skeleton}
 use Rattle.ob_base.specs.declared.skeleton.Skeleton.TheVariants.{Create, Insert, Update, Delete, Drop as DropTable, Rows, Groups}
@@ -110,7 +110,7 @@ none_from t u = record { none = λ g. refl; long = λ g h. refl }
 none_counted : (t blocks : ℕ) → MakesNone (λ g. count_part t blocks)
 none_counted t blocks = none_alike (count_part t blocks) (makes-count_part t blocks)
 
--- ---- what a plan asks behind its first access
+-- ---- what a plan asks after its first access
 none_passes : (t blocks results buffered j : ℕ) → MakesNone (λ g. small_pass t g blocks results buffered j)
 none_passes t blocks results buffered j =
     none_both (λ g. count_part t blocks) (λ g. each (min buffered (results - j * buffered)) (write_from g (j * buffered)))
@@ -185,9 +185,9 @@ steady_alike xs none = record {
   long = λ g h. refl;
 }
 
--- behind accesses that make no region, some that make it first
+-- after accesses that make no region, some that make it first
 module _ (front : List Access) (asks : ℕ → List Access) (none : makes front ≡ 0) (first : MakesFirst asks) where
-  -- it is made behind those
+  -- it is made after those
   made_at : (g : ℕ) → slice_get (front ++ asks g) (length front) ≡ Some (Make g first.blocks first.len)
   made_at g = at_back front (asks g) (length front) 0 (Make g first.blocks first.len) (omega arith) (ap (λ (l : List Access). slice_get l 0) (first.is g))
 
@@ -258,7 +258,7 @@ unfolding makes
 steady_until Static asks steady = steady_alike [] refl
 steady_until Whole asks steady = steady
 steady_until AfterCount asks steady = steady
-steady_until Joined asks steady = steady_alike [] refl
+steady_until Batched asks steady = steady_alike [] refl
 steady_until (Cut n) asks steady = steady_first n asks steady
 
 -- ---- a SELECT
@@ -270,7 +270,7 @@ module _ (p : Public) (seen : Seen) (no_second : seen.then ≡ None) where
   unfolding makes
   makes_front t = makes-append (count_part t.region (blocks_of p t)) [] ∙ (let e = makes-count_part t.region (blocks_of p t) in omega (arith, e))
 
-  -- behind the count, by what is padded and what is counted
+  -- after the count, by what is padded and what is counted
   steady_rows : (pad : Option ℕ) (t : Extent) → AreSteadyAccesses (λ g. count_part t.region (blocks_of p t) ++ behind_count pad (numbered g) seen g t [])
   steady_rows (Some pad) t =
       let q = padded_rows pad t.slots in
@@ -309,7 +309,7 @@ module _ (p : Public) (seen : Seen) (no_second : seen.then ≡ None) where
       steady_until seen.end (λ g. with_table table (numbered g) (λ t. count_part t.held (blocks_of (numbered g) (extent_of t)))) (steady_groups (stored_at table (stored_regions p.tables)))
   steady_select other one = absurd one
 
--- a SELECT without a join, whatever is seen of it but for a second plan
+-- a SELECT without a join, whatever is seen of it except for a second plan
 pub steady_of : (p : Public) (x : Served) → MayFly x → IsSteady p x
 steady_of p x may = steady_select p x.seen may.one_plan x.skeleton may.skeleton
 

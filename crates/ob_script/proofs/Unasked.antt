@@ -4,7 +4,7 @@ use Rattle.ob_base.specs.declared.access.Access.{Access}
 use Rattle.ob_base.specs.declared.config.Public.{Public}
 use Rattle.ob_base.specs.declared.seen.Seen.{Seen}
 use Rattle.ob_base.specs.declared.seen.End.{End}
-use Rattle.ob_base.specs.declared.seen.End.TheVariants.{Joined, Static}
+use Rattle.ob_base.specs.declared.seen.End.TheVariants.{Batched, Static}
 use Rattle.ob_base.specs.declared.skeleton.Skeleton.{Skeleton}
 use Rattle.ob_base.specs.Accesses.{makes}
 use Rattle.ob_script.specs.Saved.{left_then}
@@ -19,7 +19,7 @@ none_made n = omega arith
 pub static_stays : (p : Public) (s : Skeleton) → next p s (record { k = None; plan = None; then = None; leaf = None; end = Static }) ≡ p
 static_stays p s = λ i. record p { next_region = none_made p.next_region i }
 
-module _ (p : Public) (s : Skeleton) (seen : Seen) (is : seen.end ≡ Joined) where
+module _ (p : Public) (s : Skeleton) (seen : Seen) (is : seen.end ≡ Batched) where
   pub asks_none : script p s seen ≡ []
   asks_none = ap (λ (e : End). until_end e (whole_script p s seen)) is
 

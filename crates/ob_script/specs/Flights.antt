@@ -170,7 +170,7 @@ pub record InOrder (p : Public) (s : Flight) : Type 0 where
   pub same : s.public ≡ record p { next_region = s.public.next_region }
   pub each : (i : ℕ) (f : Flying) → slice_get s.flying i ≡ Some f → IsAhead p s.public.next_region i f s.log
 
--- behind what was asked more was
+-- after what was asked more was
 pub record LogGrows (old new : Flight) : Type 0 where
   pub rest : List (ℕ × Access)
   pub log : new.log ≡ old.log ++ rest
@@ -211,7 +211,7 @@ pub data Entry : Type 0 where
   Alone : (x : Served) → Entry
   Together : (flown : List Served) (stopped : Option ℕ) → Entry
 
--- what is public after a flight: nothing but the next region has changed
+-- what is public after a flight: nothing except the next region has changed
 abbrev pub next_flight : Public → List Served → (words : ℕ → ℕ) → Public
 next_flight p flown words = record p { next_region = (flight p flown words).public.next_region }
 
@@ -251,6 +251,6 @@ unfoldable pub draw : (start : ℕ) → (t : ℕ) → ℕ
 draw start zero = start
 draw start (suc t) = next_draw (draw start t)
 
--- the word of a turn, counted from 0, that is the draw behind it without its low bits
+-- the word of a turn, counted from 0, that is the draw after it without its low bits
 abbrev pub drawn : (start : ℕ) → (t : ℕ) → ℕ
 drawn start t = draw start (t + 1) / 8589934592

@@ -1,4 +1,4 @@
--- What the engine's part of a statement asks where tables are saved: the closing behind it, and what is discarded then, are
+-- What the engine's part of a statement asks where tables are saved: the closing after it, and what is discarded then, are
 -- of calls of their own.
 use Rattle.std.specs.Prelude.{◌≡◌, ◌+◌, ℕ, List, [], Option, None, Some, if◌then◌else◌}
 use Rattle.std.specs.Option.{option_map}
@@ -7,7 +7,7 @@ use Rattle.ob_base.specs.declared.config.Public.{Public}
 use Rattle.ob_base.specs.declared.schema.Shape.TheVariants.{Flat}
 use Rattle.ob_base.specs.declared.seen.Seen.{Seen}
 use Rattle.ob_base.specs.declared.seen.End.{End}
-use Rattle.ob_base.specs.declared.seen.End.TheVariants.{Static, Whole, AfterCount, Joined, Cut}
+use Rattle.ob_base.specs.declared.seen.End.TheVariants.{Static, Whole, AfterCount, Batched, Cut}
 use Rattle.ob_base.specs.declared.skeleton.Skeleton.{Skeleton}
 use Rattle.ob_base.specs.declared.skeleton.Skeleton.TheVariants.{Create, Insert, Update, Delete, Drop as DropTable, Rows, Groups}
 use Rattle.ob_base.specs.Accesses.{drop_script, makes}
@@ -59,10 +59,10 @@ abbrev pub left_then : Public → Skeleton → End → Option ℕ
 left_then p s Static = None
 left_then p s Whole = left_by p s
 left_then p s AfterCount = None
-left_then p s Joined = None
+left_then p s Batched = None
 left_then p s (Cut n) = None
 
--- ---- statements behind which tables are saved
+-- ---- statements after which tables are saved
 -- there is a flat table of this name
 pub record HasFlat (name : List ℕ) (p : Public) : Type 0 where
   pub table : Stored ℕ

@@ -9,7 +9,7 @@ use Rattle.ob_base.specs.declared.schema.Heading.{Heading}
 use Rattle.ob_base.specs.declared.schema.Shape.{Shape}
 use Rattle.ob_base.specs.declared.seen.Seen.{Seen}
 use Rattle.ob_base.specs.declared.seen.End.{End}
-use Rattle.ob_base.specs.declared.seen.End.TheVariants.{Static, Whole, AfterCount, Joined, Cut}
+use Rattle.ob_base.specs.declared.seen.End.TheVariants.{Static, Whole, AfterCount, Batched, Cut}
 use Rattle.ob_base.specs.declared.skeleton.Source.{Source}
 use Rattle.ob_base.specs.declared.skeleton.Source.TheVariants.{Table as OneTable, Join}
 use Rattle.ob_base.specs.declared.skeleton.Skeleton.{Skeleton}
@@ -40,7 +40,7 @@ rows_width p t = p.pack * t.width
 abbrev pub with_table : List ℕ → Public → (Stored ℕ → List Access) → List Access
 with_table name p f = option_map_or f (stored_at name (stored_regions p.tables)) []
 
--- ---- an access of an index, whose stash lies in the region behind that of its tree
+-- ---- an access of an index, whose stash lies in the region after that of its tree
 -- for the leaf that is held; without one no more than its stash is read
 abbrev pub index_part_of : Public → (leaf : Option ℕ) → Stored ℕ → List Access
 index_part_of p None t = count_part (t.held + 1) p.stash
@@ -139,7 +139,7 @@ made_by (DropTable table) = 0
 made_by (Rows source cs) = 0
 made_by (Groups table cs key) = 0
 
--- the region of the closing that lists the tables behind it
+-- the region of the closing that lists the tables after it
 abbrev pub closing_behind : Public → Skeleton → ℕ
 closing_behind p s = p.next_region + made_by s
 
@@ -153,41 +153,41 @@ save_part p s left =
 abbrev pub behind_change : Public → Skeleton → (left : Option ℕ) → List Access
 behind_change p s left = if p.save then save_part p s left else drop_script left
 
--- whether tables are saved behind a statement
+-- whether tables are saved after a statement
 abbrev pub is_saved : Public → Skeleton → Bool
 is_saved p s = changes_tables s && p.save
 
--- the closing that lists the tables behind one
+-- the closing that lists the tables after one
 abbrev pub closing_then : Public → Skeleton → End → Option ℕ
 closing_then p s Static = p.closing
 closing_then p s Whole = if is_saved p s then Some (closing_behind p s) else p.closing
 closing_then p s AfterCount = p.closing
-closing_then p s Joined = p.closing
+closing_then p s Batched = p.closing
 closing_then p s (Cut n) = p.closing
 
 -- ---- all statements
 -- what a flat table's change is followed by, from the region that it leaves
-abbrev pub Behind : Type 0
-Behind = Option ℕ → List Access
+abbrev pub FollowUp : Type 0
+FollowUp = Option ℕ → List Access
 
 -- a mutation of a table goes into the next region
-abbrev pub mutation_script : Public → (ℕ → ℕ → ℕ → ℕ → List Access → List Access) → Behind → Stored ℕ → List Access
+abbrev pub mutation_script : Public → (ℕ → ℕ → ℕ → ℕ → List Access → List Access) → FollowUp → Stored ℕ → List Access
 mutation_script p part behind t =
     part t.held p.next_region (blocks_of p (extent_of t)) (rows_width p (extent_of t)) (behind (Some t.held))
 
--- a new table, in the next region, and the stash of an index in the one behind it
-abbrev pub created_script : Public → (keys width : ℕ) → Behind → Shape → List Access
+-- a new table, in the next region, and the stash of an index in the one after it
+abbrev pub created_script : Public → (keys width : ℕ) → FollowUp → Shape → List Access
 created_script p n width behind shape =
     by_shape shape (create_part p.next_region (blocks_for p.pack n) (p.pack * width) ++ behind None)
     (index_part p.next_region (p.next_region + 1) p.stash (height_of n) width)
 
 -- the regions of a table are given up
-abbrev pub dropped_script : Behind → Stored ℕ → List Access
+abbrev pub dropped_script : FollowUp → Stored ℕ → List Access
 dropped_script behind t =
     by_shape t.heading.shape (behind (Some t.held)) (discard_at t.held ++ discard_at (t.held + 1))
 
 -- all accesses of a statement that is not refused before the first, by what follows a change
-abbrev pub whole_by : Behind → Public → Skeleton → Seen → List Access
+abbrev pub whole_by : FollowUp → Public → Skeleton → Seen → List Access
 whole_by behind p (Create table cs n shape) seen = created_script p n (width (columns_of table cs)) behind shape
 whole_by behind p (Insert table cs) seen = with_table table p (shape_script p seen.leaf (mutation_script p insert_part behind))
 whole_by behind p (Update table cs) seen = with_table table p (shape_script p seen.leaf (mutation_script p rewrite_part behind))
@@ -203,7 +203,7 @@ abbrev pub until_end : End → List Access → List Access
 until_end Static all = []
 until_end Whole all = all
 until_end AfterCount all = all
-until_end Joined all = []
+until_end Batched all = []
 until_end (Cut n) all = take n all
 
 abbrev pub script : Public → Skeleton → Seen → List Access

@@ -39,7 +39,7 @@ is_even (PathWrites region height leaf) = true
 abbrev pub all_accesses : List Section → List Access
 all_accesses sections = flat_map accesses_of sections
 
--- behind the sections that there were, these accesses follow
+-- after the sections that there were, these accesses follow
 abbrev pub Adds : (old new : List Section) → List Access → Type 0
 Adds old new more = all_accesses new ≡ all_accesses old ++ more
 

@@ -9,7 +9,7 @@ use Rattle.ob_base.specs.declared.schema.Shape.{Shape}
 use Rattle.ob_base.specs.declared.schema.Shape.TheVariants.{Flat, Indexed}
 use Rattle.ob_base.specs.declared.seen.Seen.{Seen}
 use Rattle.ob_base.specs.declared.seen.End.{End}
-use Rattle.ob_base.specs.declared.seen.End.TheVariants.{Static, Whole, AfterCount, Joined, Cut}
+use Rattle.ob_base.specs.declared.seen.End.TheVariants.{Static, Whole, AfterCount, Batched, Cut}
 use Rattle.ob_base.specs.declared.skeleton.Source.{Source}
 use Rattle.ob_base.specs.declared.skeleton.Source.TheVariants.{Table as OneTable, Join}
 use Rattle.ob_base.specs.declared.skeleton.Skeleton.{Skeleton}
@@ -21,7 +21,7 @@ use Rattle.ob_base.specs.Stored.{Stored, stored_at, stored_regions}
 use Rattle.ob_script.specs.declared.extent.Extent.{Extent}
 use Rattle.ob_script.specs.Script.{extent_of, joined_extent}
 
--- a table's capacity, its width and its region, behind which there is another
+-- a table's capacity, its width and its region, after which there is another
 pub record IsTable (t : Table) : Type 0 where
   pub capacity : t.heading.capacity ≤ 2 ^ 20
   pub width : width t.heading.schema ≤ 1024
@@ -54,7 +54,7 @@ abbrev pub EndsWithin : ℕ → End → Type 0
 EndsWithin n Static = ⊤
 EndsWithin n Whole = ⊥
 EndsWithin n AfterCount = ⊥
-EndsWithin n Joined = ⊤
+EndsWithin n Batched = ⊤
 EndsWithin n (Cut m) = m ≤ n
 
 -- the leaf that is held is one of a tree of this height; without one no more than so many slots were read

@@ -78,11 +78,11 @@ pub fn part_makes()
 
 /// A statement that was served with the one before it asks nothing and leaves no region, and what is public stays.
 pub fn joined_asks_nothing()
-    ensures asks { (p : Public) (s : Skeleton) (seen : Seen) → seen.end ≡ End.Joined
+    ensures asks { (p : Public) (s : Skeleton) (seen : Seen) → seen.end ≡ End.Batched
         → script p s seen ≡ [] }
-    ensures leaves { (p : Public) (s : Skeleton) (seen : Seen) → seen.end ≡ End.Joined
+    ensures leaves { (p : Public) (s : Skeleton) (seen : Seen) → seen.end ≡ End.Batched
         → left_then p s seen.end ≡ None }
-    ensures stays { (p : Public) (s : Skeleton) (seen : Seen) → seen.end ≡ End.Joined
+    ensures stays { (p : Public) (s : Skeleton) (seen : Seen) → seen.end ≡ End.Batched
         → next p s seen ≡ p }
 {}
 

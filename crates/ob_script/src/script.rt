@@ -49,7 +49,7 @@ fn push_discard(sections: &mut Sections, region: Option<u64>)
     }
 }
 
-// How many tables there are behind a statement.
+// How many tables there are after a statement.
 fn listed_after(public: &Public, skeleton: &Skeleton) -> u32
     requires few { length public.now.tables ≤ 64 }
     ensures value { result ≡ length (tables_after public.now skeleton.now) }
@@ -107,7 +107,7 @@ fn push_saving(sections: &mut Sections, public: &Public, skeleton: &Skeleton, le
     push_discard(sections, public.closing);
 }
 
-// INSERT, but for what follows.
+// INSERT, except for what follows.
 #[tactic(auto, using(crate::proofs::Joined::all_more))]
 fn push_insert(sections: &mut Sections, from: u64, to: u64, blocks: u32, width: u32)
     requires room { length sections.old ≤ 12 }
@@ -127,7 +127,7 @@ fn push_insert(sections: &mut Sections, from: u64, to: u64, blocks: u32, width: 
     sections.push(Section::Copies { from, to, blocks });
 }
 
-// UPDATE and DELETE, but for what follows.
+// UPDATE and DELETE, except for what follows.
 #[tactic(auto, using(crate::proofs::Joined::all_more))]
 fn push_rewrite(sections: &mut Sections, from: u64, to: u64, blocks: u32, width: u32)
     requires room { length sections.old ≤ 13 }
@@ -726,7 +726,7 @@ pub fn script_len(public: &Public, skeleton: &Skeleton, seen: &Seen) -> u64
     ensures { result ≡ length (script public.now skeleton.now seen.now) }
 {
     match seen.end {
-        End::Static | End::Joined => 0,
+        End::Static | End::Batched => 0,
         End::Whole | End::AfterCount => whole(public, skeleton, seen).len(),
         End::Cut(n) => n.min(whole(public, skeleton, seen).len()),
     }

@@ -57,7 +57,7 @@ pub relisted_pair : (secret s t : List ℕ) (earlier : List Salted) (regions : L
     → pair_of (keys_salted secret t (relisted s earlier regions)) q ≡ pair_of (keys_salted secret s earlier) q
 relisted_pair secret s t earlier regions i q is = salts_agree secret t s (relisted s earlier regions) earlier q (kept_salt s t earlier regions i q is)
 
--- a region behind those of earlier runs has the run's own salt
+-- a region after those of earlier runs has the run's own salt
 own_salt : (salt : List ℕ) (earlier : List Salted) (q : ℕ) → AreBefore q earlier → salt_at salt earlier q ≡ Some salt
 unfolding salt_at
 own_salt salt [] q before = refl

@@ -6,7 +6,7 @@ ghost use Rattle.ob_seal.specs.Sealed.{AreBefore, AreOfSecret, AreSaltsOf, IsEar
 ghost use Rattle.ob_seal.specs.declared.At.{At as Head};
 ghost use Rattle.ob_seal.specs.declared.Salted.{Salted as Earlier};
 
-/// A run's keys for a region are those of the region's salt, which for a region behind those of earlier runs is its
+/// A run's keys for a region are those of the region's salt, which for a region after those of earlier runs is its
 /// own; a later run that lists the region with its salt has the same for it, whatever keys of the secret sealed it; and
 /// keys that are the same for a region seal its blocks alike.
 pub fn salts_name_keys()

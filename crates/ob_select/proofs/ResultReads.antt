@@ -37,7 +37,7 @@ ends_from grew cut Sink head shown more old new back same is =
 ends_from grew cut NoMemory head shown more old new back same is =
     record { events = is.events; ends = is.ends; told = λ t. let rest = is.told (back t) in (rest.0, rest.1 ∙ ap (λ (l : List (List Shown)). head ++ row_events l) (same t)) }
 
--- a changed block that doesn't fit doesn't where nothing but regions has changed
+-- a changed block that doesn't fit doesn't where nothing except regions has changed
 pub unfit_before : {some : ℕ → Type 0} {b c : World} → Lasts some b c → c.store ≡ b.store → IsUnfit c → IsUnfit b
 unfit_before {some} {b} {c} lasts same is = record {
   unfit = λ lie told fits. is.unfit lie (ap (λ (s : StoreState). s.lie) same ∙ told)

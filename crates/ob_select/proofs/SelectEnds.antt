@@ -111,7 +111,7 @@ module _ {E : Type 0} (grew cut : E → E → List Event → Type 0) (faults : E
     long : length mid.store.asked ≡ length old.store.asked + counted_after q
     long = omega (arith, went_length none (counts_of q) old mid count, length-count_part q.flat.region (counted_after q))
 
-    -- nothing was asked behind the count
+    -- nothing was asked after the count
     ran_alone : (result : Result Selected OpErr) → IfErr result (λ e. (e ≡ Sink) ⊎ (e ≡ NoMemory)) → PassRan (counts_of q ++ []) (from old.vault.next) result old mid
     ran_alone (Ok answer) never = record { ok = subst (λ (x : List Access). Went x (from old.vault.next) old mid) (sym (append-nil (counts_of q))) (went_wider none old mid (from old.vault.next) (none_from old.vault.next) (counts_of q) count); err = tt }
     ran_alone (Err e) never =

@@ -16,7 +16,7 @@ use Rattle.ob_base.specs.Plans.{choose}
 use Rattle.ob_base.proofs.PlanLemmas.{forced_hash}
 use Rattle.ob_row.specs.Slots.{Slots, is_consecutive}
 use Rattle.ob_row.specs.Truth.{is_true}
-use Rattle.ob_store.specs.State.{Lie}
+use Rattle.ob_store.specs.State.{FalseRead}
 use Rattle.ob_vault.specs.State.{World}
 use Rattle.ob_vault.specs.Tied.{ReadsIn, Ready}
 use Rattle.ob_vault.specs.Calls.{one}
@@ -115,7 +115,7 @@ module _ (q : Selection) (k : ℕ) (c : Bool) (plan : Plan) (old mid : World) (i
   ]
 
   pub first_begun : {T : Type 0} (ready : Ready old) (new : World) (result : Result T OpErr) → PassRan (whole_part (planned q plan k) mid.vault.next) (one mid.vault.next) result mid new → (s : SelectsToEnd q old old)
-      → mid.store.lie ≡ None → (lie : Lie) → new.store.lie ≡ Some lie → ReadsIn lie (old.store.asked ++ selection_script q (selection_seen q s.slots) old.vault.next)
+      → mid.store.lie ≡ None → (lie : FalseRead) → new.store.lie ≡ Some lie → ReadsIn lie (old.store.asked ++ selection_script q (selection_seen q s.slots) old.vault.next)
   first_begun ready new result ran s nolie lie told =
       let are = counted_is q k c plan old mid is s.slots s.is nolie in
       let script = first_script s.slots s.is.size (suits_mid q k c plan old mid is side s.slots s.is nolie) are.1 in

@@ -40,7 +40,7 @@ pub held_empty : {A : Type 0} (b : Bool) (o : Option A) → o ≡ None → None 
 held_empty true o is = sym is
 held_empty false o is = refl
 
--- a second plan is seen only behind a Hash
+-- a second plan is seen only after a Hash
 record IsHashed (pad : Option ℕ) (seen : Seen) (n : ℕ) : Type 0 where
   unpadded : pad ≡ None
   k : seen.k ≡ Some n
@@ -99,7 +99,7 @@ uncounted_held q slots e n settings is few some =
       ];
     }
 
--- behind the count
+-- after the count
 pub counted_held : (q : Selection) (slots : Slots) (k : ℕ) (plan : Option Plan) (failed : Bool) (n : ℕ) → selection_seen q slots ≡ counted k plan None Whole → counted_after q ≤ done_of failed n
     → HoldsSeen q slots failed n (counted k plan None Whole)
 counted_held q slots k plan failed n seen enough = record {
@@ -118,7 +118,7 @@ walking_held q slots k failed n seen enough less = record {
   second = not_held _ (selection_seen q slots).then (not_le _ _ (subst (λ (s : Seen). done_of failed n < walked_after q s) (sym seen) less));
 }
 
--- and behind it
+-- and after it
 pub walked_held : (q : Selection) (slots : Slots) (k : ℕ) (failed : Bool) (n : ℕ) → selection_seen q slots ≡ counted k (Some Hash) (Some Small) Whole → counted_after q ≤ done_of failed n
     → walked_after q (counted k (Some Hash) (Some Small) Whole) ≤ done_of failed n
     → HoldsSeen q slots failed n (counted k (Some Hash) (Some Small) Whole)
@@ -136,7 +136,7 @@ nothing_held q slots failed n is = record {
   second = held_empty _ (selection_seen q slots).then (ap (λ (s : Seen). s.then) is);
 }
 
--- how many were carried out, of those behind the first m
+-- how many were carried out, of those after the first m
 pub done_behind : (e : OpErr) (n m : ℕ) → m ≤ n → (IsTrue (is_of_access e) → m < n) → m ≤ done_of (is_of_access e) n
 done_behind Failed n m le lt = omega (arith, lt refl)
 done_behind (Tampered r x) n m le lt = omega (arith, lt refl)

@@ -19,7 +19,7 @@ use Rattle.ob_row.specs.Totals.{printed}
 use Rattle.ob_row.specs.Truth.{is_true}
 use Rattle.ob_script.specs.Script.{behind_count, extent_of}
 use Rattle.ob_script.proofs.Lengths.{length-count_part}
-use Rattle.ob_store.specs.State.{Lie}
+use Rattle.ob_store.specs.State.{FalseRead}
 use Rattle.ob_store.proofs.Steps as Stores
 use Rattle.ob_vault.specs.State.{World}
 use Rattle.ob_vault.specs.Tied.{ReadsIn, Ready}
@@ -185,7 +185,7 @@ module _ (q : Selection) (pad : ℕ) (is_pad : q.public.pad ≡ Some pad) where
       ended_padded (Err e) answers = tt
 
     begun_padded : {T : Type 0} (ready : Ready old) (new : World) (result : Result T OpErr) → PassRan (whole_part r mid.vault.next) (one mid.vault.next) result mid new → (s : SelectsToEnd q old old)
-        → mid.store.lie ≡ None → (lie : Lie) → new.store.lie ≡ Some lie → ReadsIn lie (old.store.asked ++ selection_script q (selection_seen q s.slots) old.vault.next)
+        → mid.store.lie ≡ None → (lie : FalseRead) → new.store.lie ≡ Some lie → ReadsIn lie (old.store.asked ++ selection_script q (selection_seen q s.slots) old.vault.next)
     begun_padded ready new result ran s nolie lie told =
         let part = whole_part r old.vault.next ++ [] in
         subst (ReadsIn lie)

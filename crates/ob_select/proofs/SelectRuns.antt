@@ -92,7 +92,7 @@ pub script_is : (q : Selection) (seen : Seen) (g : ℕ) → q.public.pad ≡ Non
 script_is q seen g unpadded = ap (λ (pad : Option ℕ). counts_of q ++ behind_count pad q.public seen g (extent_of (region_of q)) []) unpadded
 
 module _ (q : Selection) (old mid : World) (ready : Ready old) (count : Went (count_part q.flat.region (blocks_of q.public.pack q.flat)) none old mid) where
-  -- behind the count
+  -- after the count
   pub ran_counted : {T : Type 0} (result : Result T OpErr) (x : List Access) (new : World) → PassRan x (from old.vault.next) result mid new → PassRan (counts_of q ++ x) (from old.vault.next) result old new
   ran_counted result x new ran = ran_after result (counts_of q) x (went_wider none old mid (from old.vault.next) (none_from old.vault.next) (counts_of q) count) ran
 

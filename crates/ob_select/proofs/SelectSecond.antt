@@ -15,7 +15,7 @@ use Rattle.ob_row.specs.Totals.{printed}
 use Rattle.ob_row.specs.Truth.{is_true}
 use Rattle.ob_store.proofs.Steps as Stores
 use Rattle.ob_vault.specs.State.{World}
-use Rattle.ob_store.specs.State.{Lie}
+use Rattle.ob_store.specs.State.{FalseRead}
 use Rattle.ob_vault.specs.Tied.{ReadsIn, Ready}
 use Rattle.ob_vault.specs.Calls.{Went, Lasts, none, one}
 use Rattle.ob_vault.proofs.Runs.{went_join, went_wider, went_length, tells_went, lives_apart}
@@ -160,7 +160,7 @@ module _ (q : Selection) (k : ℕ) (c : Bool) (old mid : World) (ready : Ready o
         until_from grew cut (head_of q) e (λ s. held_events (planned q Small k) s.slots) (λ s. answer_events q s.slots) out out_new (halt_small by.ran.err.lasts) (λ s. inl (halt_events by.ran.err.lasts s)) by.halted
 
     pub second_begun : (result : Result Selected OpErr) → SelectsBy grew cut faults (planned q Small k) result late new out out_new → (s : SelectsToEnd q old old) → late.store.lie ≡ None
-        → (lie : Lie) → new.store.lie ≡ Some lie → ReadsIn lie (old.store.asked ++ selection_script q (selection_seen q s.slots) old.vault.next)
+        → (lie : FalseRead) → new.store.lie ≡ Some lie → ReadsIn lie (old.store.asked ++ selection_script q (selection_seen q s.slots) old.vault.next)
     second_begun result by s nolie lie told =
         let a = are s.slots s.is nolie in
         let l = left_of s.tells s.slots s.is nolie in

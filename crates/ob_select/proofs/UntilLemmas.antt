@@ -81,7 +81,7 @@ module _ {E : Type 0} (grew cut : E → E → List Event → Type 0) (head : Lis
   until_failed Sink all a b failed is = absurd (cc failed)
   until_failed NoMemory all a b failed is = absurd (cc failed)
 
-  -- behind it there is more of the answer
+  -- after it there is more of the answer
   pub until_more : {S : Type 0} (e : OpErr) (all last : S → List Event) (a b : E) → EmitsUntil grew cut e head all a b → EmitsUntil grew cut e head (λ s. all s ++ last s) a b
   until_more {S} e all last a b is = go e is
     where

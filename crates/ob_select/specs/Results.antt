@@ -256,7 +256,7 @@ MayAnswer plan pad (Refused (Overflow i)) = (plan ≡ Hash) × (pad ≡ None)
 MayAnswer plan pad (Refused PadPassed) = IsSome pad
 MayAnswer plan pad (Refused _) = ⊥
 
--- a result was made, read back and discarded, and emitted if it isn't refused; no region is left but those that there
+-- a result was made, read back and discarded, and emitted if it isn't refused; no region is left except those that there
 -- were
 pub record SelectsBy {E : Type 0} (grew cut : E → E → List Event → Type 0) (faults : E → ℕ)
     (r : Planned) (result : Result Selected OpErr) (old new : World)

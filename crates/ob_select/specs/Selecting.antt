@@ -22,7 +22,7 @@ use Rattle.ob_row.specs.Slots.{Slots, rows, selected}
 use Rattle.ob_row.specs.Truth.{is_true}
 use Rattle.ob_script.specs.Script.{blocks_of, extent_of, padded_part, select_part}
 use Rattle.ob_vault.specs.State.{World}
-use Rattle.ob_store.specs.State.{Lie}
+use Rattle.ob_store.specs.State.{FalseRead}
 use Rattle.ob_vault.specs.Numbers.{spent}
 use Rattle.ob_vault.specs.Tied.{Ready, ReadsIn, IsUnfit}
 use Rattle.ob_vault.specs.Calls.{Seals}
@@ -97,7 +97,7 @@ selection_answer q slots =
 abbrev pub selection_seen : Selection → Slots → Seen
 selection_seen q slots = seen_rows q.public (length slots) (places q slots)
 
--- the slots of its last result, but for those to which it is padded
+-- the slots of its last result, except for those to which it is padded
 abbrev pub result_of : Selection → Slots → Slots
 result_of q slots = selected_result q.public (is_true q.condition) slots
 
@@ -262,7 +262,7 @@ pub record UsesRoom (old new : RoomState) : Type 0 where
   pub kept : old.high ≤ new.high
   pub some : 1 ≤ new.high
 
--- the rows of a region were counted, put into a result or two, and emitted; no region is left but those that there were
+-- the rows of a region were counted, put into a result or two, and emitted; no region is left except those that there were
 pub record SelectsFrom {E : Type 0} (grew cut : E → E → List Event → Type 0) (faults : E → ℕ)
     (q : Selection) (result : Result Selected OpErr) (seen : Seen) (old new : World)
     (out_old out_new : E) : Type 0 where
@@ -286,6 +286,6 @@ pub record SelectsFrom {E : Type 0} (grew cut : E → E → List Event → Type 
   pub held : (s : SelectsToHalt q old new) → IfErr result (λ e.
       HoldsSeen q s.slots (is_of_access e) (length new.store.asked - length old.store.asked) seen)
   -- the first changed block that is read is one that is read of these slots
-  pub begun : (s : SelectsToEnd q old old) (lie : Lie) → new.store.lie ≡ Some lie
+  pub begun : (s : SelectsToEnd q old old) (lie : FalseRead) → new.store.lie ≡ Some lie
       → ReadsIn lie
       (old.store.asked ++ selection_script q (selection_seen q s.slots) old.vault.next)

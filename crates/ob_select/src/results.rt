@@ -18,7 +18,7 @@ use ob_emit::{emit_all, walk};
 use ob_flat::{Flat, OpErr, discard};
 use ob_hash::Placed;
 use ob_plan::padded_plan;
-use ob_room::Room;
+use ob_room::RowBuffer;
 use ob_store::BlockStore;
 use ob_vault::{Revisions, Vault};
 
@@ -78,7 +78,7 @@ fn placed(made: Result<Flat, OpErr>) -> Result<Placed, OpErr>
 fn make_result<S: BlockStore, R: Revisions>(
     store: &mut S,
     vault: &mut Vault<R>,
-    room: &mut Room,
+    room: &mut RowBuffer,
     public: &Public,
     query: &Query<'_>,
     k: u32,
@@ -106,7 +106,7 @@ fn make_result<S: BlockStore, R: Revisions>(
 fn make_padded<S: BlockStore, R: Revisions>(
     store: &mut S,
     vault: &mut Vault<R>,
-    room: &mut Room,
+    room: &mut RowBuffer,
     _public: &Public,
     query: &Query<'_>,
     rows: u32,
@@ -133,7 +133,7 @@ fn make_padded<S: BlockStore, R: Revisions>(
 fn emit_result<S: BlockStore, R: Revisions, E: Emit>(
     store: &mut S,
     vault: &mut Vault<R>,
-    room: &mut Room,
+    room: &mut RowBuffer,
     fresh: Flat,
     cols: &[u8],
     out: &mut E,
@@ -165,7 +165,7 @@ fn emit_result<S: BlockStore, R: Revisions, E: Emit>(
 fn walk_result<S: BlockStore, R: Revisions>(
     store: &mut S,
     vault: &mut Vault<R>,
-    room: &mut Room,
+    room: &mut RowBuffer,
     fresh: Flat,
 ) -> Result<(), OpErr>
     requires spare { HasSpare (blocks_of room.old.pack fresh + 1)
@@ -194,7 +194,7 @@ fn walk_result<S: BlockStore, R: Revisions>(
 pub(crate) fn select_by<S: BlockStore, R: Revisions, E: Emit>(
     store: &mut S,
     vault: &mut Vault<R>,
-    room: &mut Room,
+    room: &mut RowBuffer,
     public: &Public,
     query: &Query<'_>,
     k: u32,
@@ -211,7 +211,7 @@ pub(crate) fn select_by<S: BlockStore, R: Revisions, E: Emit>(
         out.old out.new }
 {
     let accesses = result_length(public, query.flat.capacity, k, plan) + query.ending;
-    if store.room(accesses).is_err() {
+    if store.reserve(accesses).is_err() {
         return Err(OpErr::NoMemory);
     }
     match make_result(store, vault, room, public, query, k, plan)? {
@@ -232,7 +232,7 @@ pub(crate) fn select_by<S: BlockStore, R: Revisions, E: Emit>(
 pub(crate) fn select_padded<S: BlockStore, R: Revisions, E: Emit>(
     store: &mut S,
     vault: &mut Vault<R>,
-    room: &mut Room,
+    room: &mut RowBuffer,
     public: &Public,
     query: &Query<'_>,
     pad: u32,

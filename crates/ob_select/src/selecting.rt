@@ -13,7 +13,7 @@ use crate::results::{select_by, select_padded};
 use ob_base::{Emit, EmitErr, End, Plan, Planner, Public, Refusal, Seen};
 use ob_emit::emit_head;
 use ob_flat::{Counted, Flat, OpErr};
-use ob_room::Room;
+use ob_room::RowBuffer;
 use ob_row::Pred;
 use ob_store::BlockStore;
 use ob_vault::{Revisions, Vault};
@@ -34,7 +34,7 @@ pub struct Query<'a> {
 /// How a selection was answered.
 #[derive(Clone, Copy, Debug, PartialEq, Eq)]
 pub enum Selected {
-    /// So many rows were emitted, behind their header.
+    /// So many rows were emitted, after their header.
     Rows(u32),
     /// It was refused for its rows, and nothing was emitted: they don't stand side by side where Continuous is
     /// forced, one finds no place where Hash is, or they are more than results are padded to.
@@ -88,7 +88,7 @@ fn is_last(public: &Public) -> bool
 /// Selects from a region: its rows are counted, then put into a fresh region by the plan for so many, and
 /// the result is emitted and discarded. Where a Hash that wasn't forced left a row out, its result is
 /// walked and discarded, and Small takes its place. `seen` has afterwards what is known by what was asked,
-/// on an error too; no region is left but those that there were. Where results are padded, all that is asked
+/// on an error too; no region is left except those that there were. Where results are padded, all that is asked
 /// follows from the sizes of the region and of the padding, and `seen` stays as it is; where more rows are
 /// selected than that, the result is walked and discarded, and refused.
 ///
@@ -101,7 +101,7 @@ fn is_last(public: &Public) -> bool
 pub fn select_from<S: BlockStore, R: Revisions, E: Emit>(
     store: &mut S,
     vault: &mut Vault<R>,
-    room: &mut Room,
+    room: &mut RowBuffer,
     public: &Public,
     query: &Query<'_>,
     seen: &mut Seen,

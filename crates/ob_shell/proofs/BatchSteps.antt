@@ -1,5 +1,5 @@
 -- A batch that was carried out, text by text.
-use Rattle.ob_shell.proofs.Words.{Access, access_public, AfterCount, Agrees, All, All-head, All-tail, AllInsert, ap, AreBatch, AreDraws, AreSpelt, arith, at_rest, batch_most, begins, begins_batch, Bool, by_fault, bytes_eq-Decides, closing_line, count_of, Cut, Does, Draws, early_refusal, End, end_cut, Engine, Err, false, Flights, Gathered, gathered_then, Heading, headings, headings_of, held_headings, if◌then◌else◌, inl, inr, inserts_into, is_cut, is_fault, is_index, is_joined, is_late, is_some, Joined, KeeperState, length, limits_of, List, Machine, machine_of, map, may_fly, most_flown, nat_lt, nat_tests, next, None, Ok, one_more, Option, option_map, option_map_or, Outcome, place_now, Public, public_of, RanBatch, refl, refusal_now, RefusedEarly, RevState, RunStop, script, Seen, seen_of, settle_all, Skeleton, skeleton, Some, SpellFirst, Spells, standing, statements_of, Static, Step, Steps, Stmt, StoreState, subst, sym, Tables, true, Whole, ℕ, [], ⊤, ◌&&◌, ◌++◌, ◌+◌, ◌-◌, ◌<◌, ◌^◌, ◌∙◌, ◌∷◌, ◌≡◌, ◌≤◌, ◌⊎◌}
+use Rattle.ob_shell.proofs.Words.{Access, access_public, AfterCount, Agrees, All, All-head, All-tail, AllInsert, ap, AreBatch, AreDraws, AreSpelt, arith, at_rest, batch_most, begins, begins_batch, Bool, by_fault, bytes_eq-Decides, closing_line, count_of, Cut, Does, Draws, early_refusal, End, end_cut, Engine, Err, false, Flights, Gathered, gathered_then, Heading, headings, headings_of, held_headings, if◌then◌else◌, inl, inr, inserts_into, is_cut, is_fault, is_index, is_joined, is_late, is_some, Batched, KeeperState, length, limits_of, List, Machine, machine_of, map, may_fly, most_flown, nat_lt, nat_tests, next, None, Ok, one_more, Option, option_map, option_map_or, Outcome, place_now, Public, public_of, RanBatch, refl, refusal_now, RefusedEarly, RevState, RunStop, script, Seen, seen_of, settle_all, Skeleton, skeleton, Some, SpellFirst, Spells, standing, statements_of, Static, Step, Steps, Stmt, StoreState, subst, sym, Tables, true, Whole, ℕ, [], ⊤, ◌&&◌, ◌++◌, ◌+◌, ◌-◌, ◌<◌, ◌^◌, ◌∙◌, ◌∷◌, ◌≡◌, ◌≤◌, ◌⊎◌}
 use Rattle.std.specs.Prelude.{IsSome, bytes_eq}
 use Rattle.std.proofs.lemmas.Bool.{false_from_ne_true}
 use Rattle.ob_base.specs.declared.skeleton.Skeleton.TheVariants as K
@@ -129,7 +129,7 @@ place_none most p outline = go (may_fly p outline && nat_lt 0 most)
     go true = refl
     go false = refl
 
--- no SELECT is gathered behind an INSERT
+-- no SELECT is gathered after an INSERT
 gathered_none : (p : Public) (outline : Skeleton) → IsSome (inserts_into outline) → gathered_then p 0 outline ≡ 0
 gathered_none p outline some = ap (λ (b : Bool). if b then 0 + 1 else 0) (not_flying p outline some)
 
@@ -171,7 +171,7 @@ module _ {R : Type 0} (state : R → RevState) (e0 e1 : Engine R) (s0 s1 : Store
   inserts_all : All Inserts rest
   inserts_all = λ i d within. ap is_some (named_all i d within)
 
-  -- with any of them first, and the others behind it
+  -- with any of them first, and the others after it
   pub together : (stmt : Stmt) (owed : List Owed) → inserts_into (skeleton stmt) ≡ Some table → AllInsert table (statements_of owed) → length owed < batch_most p0 → GoTogether p0 stmt owed
   together stmt owed is all few = record { few = few; alike = inr (table, insert_first table stmt (statements_of owed) is all) }
 
@@ -281,7 +281,7 @@ module _ {R : Type 0} (state : R → RevState) (e0 e1 : Engine R) (s0 s1 : Store
     undrawn_by (K.Insert name columns) Static flat is = refl
     undrawn_by (K.Insert name columns) Whole flat is = ap (λ (b : Bool). if b then 1 else 0) flat
     undrawn_by (K.Insert name columns) AfterCount flat is = ap (λ (b : Bool). if b then 1 else 0) flat
-    undrawn_by (K.Insert name columns) Joined flat is = refl
+    undrawn_by (K.Insert name columns) Batched flat is = refl
     undrawn_by (K.Insert name columns) (Cut n) flat is = ap (λ (b : Bool). if b then 1 else 0) flat
     undrawn_by other end flat is = absurd (cc is)
 
@@ -329,11 +329,11 @@ module _ {R : Type 0} (state : R → RevState) (e0 e1 : Engine R) (s0 s1 : Store
         go Whole is = refl
         go Static is = absurd (subst (λ (o : _). RefusedEarly o (Ok outcome) here) begun.accepted c.early is)
         go AfterCount is = absurd (plain_holds is)
-        go Joined is = absurd (let apart = end_apart (Ok outcome) (length s1.asked - length s0.asked) in let joined = ap is_joined (sym c.ran.ends ∙ is) in cc (apart, joined))
+        go Batched is = absurd (let apart = end_apart (Ok outcome) (length s1.asked - length s0.asked) in let joined = ap is_joined (sym c.ran.ends ∙ is) in cc (apart, joined))
         go (Cut n) is = absurd (let off = ap is_cut c.ran.ends ∙ end_cut outcome _ ∙ own in let on = ap is_cut is in cc (off, on))
 
     module _ (g : Gathered) (off : IsApartFrom flights.settings p0 g (skeleton first)) where
-      -- what is gathered behind so many of them
+      -- what is gathered after so many of them
       abbrev pub gathered_at : (count : ℕ) → Gathered
       gathered_at count = record { batch = Some (record { table = table; count = count; failed = failed }); flown = 0 }
 
@@ -431,7 +431,7 @@ module _ {R : Type 0} (state : R → RevState) (e0 e1 : Engine R) (s0 s1 : Store
           by_failed tables d drawn reads false own = owes_first own tables d drawn reads
 
     -- ---- the others
-    -- one of them, behind so many
+    -- one of them, after so many
     other_step : (g : Gathered) (off : IsApartFrom flights.settings p0 g (skeleton first)) (count : ℕ) (stmt : Stmt) (stmts : List Stmt) (one : Outcome) (given : List Outcome) (text : List ℕ) → count < batch_most p0 → inserts_into (skeleton stmt) ≡ Some table
         → AllInsert table (statements_of (owed_of failed stmts given)) → length stmts < batch_most p0 → IsServedWith (refusal_now p1 a1 stmt) failed one → Spells text (Ok stmt)
         → Step state (standing m1 (owed_of failed (stmt ∷ stmts) (one ∷ given)) (gathered_at g off count)) (standing m1 (owed_of failed stmts given) (gathered_at g off (count + 1))) text (line_answer one)
@@ -462,7 +462,7 @@ module _ {R : Type 0} (state : R → RevState) (e0 e1 : Engine R) (s0 s1 : Store
         takes true = (refl, refl)
         takes false = refl
 
-    -- by what is public behind the first
+    -- by what is public after the first
     served_all : AreServedWith p1 a1 failed rest outcomes
     served_all = served_alike p0 p1 a0 a1 (sym early_then) (sym headings_are) failed rest outcomes inserts_all ran.others
 
@@ -508,7 +508,7 @@ module _ {R : Type 0} (state : R → RevState) (e0 e1 : Engine R) (s0 s1 : Store
           (subst (λ (n : ℕ). Steps state (at (owed_of failed stmts given) (count + 1)) (at [] n) texts (line_answers given)) same
           (others_steps (count + 1) stmts given texts (omega (arith, room)) (omega arith) behind served.1 spelt.1))
 
-      -- a line among them was lost; behind the first one all was asked
+      -- a line among them was lost; after the first one all was asked
       pub record LineLost (start : Machine R) (texts : List (List ℕ)) (done : List Outcome) (one : Outcome) : Type 0 where
         pub front : List (List ℕ)
         pub text : List ℕ

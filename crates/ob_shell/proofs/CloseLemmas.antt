@@ -1,7 +1,7 @@
 -- What a run promises once its last line was written.
 use Rattle.ob_shell.proofs.Words.{arith, Base, Bool, Config, drop, Ending, Err, false, Faults, FlightSettings, flying, fresh, FromEach, inl, IsFresh, IsHonest, KeySet, last_line, length, limit_of, LineWritten, List, LosesSome, Option, OutFailed, Outputs, printed, Ran, refl, refused_by, Report, Rises, ServesAlone, SinksRose, status_of, StoreState, subst, sym, Tally, Took, true, Unwritten, Usage, WordsErr, ℕ, [], ⊤, ◌++◌, ◌≡◌, ◌≢◌, ◌⊎◌}
 use Rattle.ob_base.specs.declared.refusal.Stop.TheVariants.{NoMemory}
-use Rattle.ob_headline.specs.Flights.{GoesOn, seats_of}
+use Rattle.ob_headline.specs.Flights.{GoesOn, positions_of}
 use Rattle.ob_headline.specs.Status.{IsCompleted, KeepsLimits, StoreFails}
 use Rattle.ob_shell.proofs.CompleteLemmas.{reported_line, reported_quiet}
 use Rattle.ob_shell.proofs.TopLemmas.{shown_unread}
@@ -74,7 +74,7 @@ unfoldable pub reported_taken : {tally : Tally} {tr : TraceSink} {Takes : Type 0
 reported_taken {tally = tally} {tr = tr} {Takes = Takes} {keys = keys} {flight = flight} {gave = gave} {l0 = l0} {l1 = l1} {w0 = w0} {w1 = w1} {s0 = s0} {s1 = s1} {old = old} {new = new} {report = report} t is r =
     let both = subst
     (λ (o : Option Config). (x : RunShown tally tr (flying flight (fresh o)) keys l0 l1 gave w0 w1 s0 s1 report.high r.ending (last_line r.ending) (SinksRose old new)) × (new.trace ≢ old.trace → Outputs w0 w1 (Unit {0}) (printed x.story.answers ++ x.story.part)) × (Took w0 w1 (printed x.story.answers ++ x.story.part) ⊎ Rises old.out new.out)
-    × (GoesOn (drop (length x.story.seen) (seats_of (flying flight (fresh o)) x.story.entries)) ⊎ LosesSome (Rises old.out new.out) r.ending))
+    × (GoesOn (drop (length x.story.seen) (positions_of (flying flight (fresh o)) x.story.entries)) ⊎ LosesSome (Rises old.out new.out) r.ending))
     (sym is) (r.shown, r.silent, r.through, r.answered) in
     record {
       ending = r.ending;

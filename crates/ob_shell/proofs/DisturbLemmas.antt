@@ -1,13 +1,13 @@
 -- Before others disturb a store, what is asked and answered is what is meant.
-use Rattle.ob_shell.proofs.Words.{Access, ap, append_assoc, AreDraws, arith, Begins, Bool, Disturbance, Does, Draws, drop, Err, false, held_headings, inl, inr, IsBefore, IsSteady, IsTrue, length, length-append, Lie, List, Machine, met_script, nat_le, nat_lt, nat_tests, None, Option, Outcome, Public, public_of, Read, refl, Represents, Result, RevState, RunStop, script, seen_of, session_of, Skeleton, skeleton, Some, Stmt, subst, sym, Tables, take, take-append-drop, take-append-le, true, World, world_of, ℕ, [], ◌++◌, ◌+◌, ◌<◌, ◌∙◌, ◌∷◌, ◌≡◌, ◌≤◌, ◌⊎◌}
+use Rattle.ob_shell.proofs.Words.{Access, ap, append_assoc, AreDraws, arith, Begins, Bool, Disturbance, Does, Draws, drop, Err, false, held_headings, inl, inr, IsBefore, IsSteady, IsTrue, length, length-append, FalseRead, List, Machine, met_script, nat_le, nat_lt, nat_tests, None, Option, Outcome, Public, public_of, Read, refl, Represents, Result, RevState, RunStop, script, seen_of, session_of, Skeleton, skeleton, Some, Stmt, subst, sym, Tables, take, take-append-drop, take-append-le, true, World, world_of, ℕ, [], ◌++◌, ◌+◌, ◌<◌, ◌∙◌, ◌∷◌, ◌≡◌, ◌≤◌, ◌⊎◌}
 use Rattle.std.specs.List.{list_all}
 use Rattle.ob_exec.specs.Ran.{ServedCause}
 use Rattle.ob_tables.specs.declared.stop.RunStop.TheVariants.{Tampered}
 use Rattle.ob_headline.proofs.FullLemmas.{met_reads}
-use Rattle.ob_shell.proofs.CalmLemmas.{first_calm}
+use Rattle.ob_shell.proofs.UntamperedLemmas.{first_calm}
 use Rattle.ob_shell.proofs.FirstPartLemmas.{begins_length, begins_met}
 use Rattle.ob_shell.proofs.ShareLemmas.{share_reads}
-use Rattle.ob_vault.specs.Tied.{Calm, EndsAt, ReadsIn}
+use Rattle.ob_vault.specs.Tied.{Untampered, EndsAt, ReadsIn}
 
 -- ---- fewer accesses come before as well
 less_tail : (d : Disturbance) (list : List Disturbance) (m : ℕ) → list_all (λ d. nat_lt m d.before) (d ∷ list) ≡ true → list_all (λ d. nat_lt m d.before) list ≡ true
@@ -50,7 +50,7 @@ few_or_more n m = go (nat_le n m) refl where
   go false e = inr (grind (arith, nat_tests))
 
 -- two lists that begin with the reads before a lie
-same_before : (n : ℕ) (lie : Lie) (xs ys : List Access) → n ≤ length lie.before → ReadsIn lie xs → ReadsIn lie ys → Begins (take n xs) ys
+same_before : (n : ℕ) (lie : FalseRead) (xs ys : List Access) → n ≤ length lie.before → ReadsIn lie xs → ReadsIn lie ys → Begins (take n xs) ys
 same_before n lie xs ys few a b =
     let first : take n xs ≡ take n lie.before = ap (take n) (sym a.is) ∙ take-append-le n lie.before (Read lie.region lie.place ∷ a.rest) few in
     subst (λ (l : List Access). Begins l ys) (sym first)
@@ -58,12 +58,12 @@ same_before n lie xs ys few a b =
 
 -- ---- one statement
 -- the read of a lie was asked
-ends_in : (q x : ℕ) (w : World) (lie : Lie) → w.store.lie ≡ Some lie → EndsAt q x w → ReadsIn lie w.store.asked
+ends_in : (q x : ℕ) (w : World) (lie : FalseRead) → w.store.lie ≡ Some lie → EndsAt q x w → ReadsIn lie w.store.asked
 ends_in q x w lie is ends =
     let same : ends.lie ≡ lie = cc (sym ends.told ∙ is) in
-    subst (λ (l : Lie). ReadsIn l w.store.asked) same (record { rest = []; is = sym ends.asked })
+    subst (λ (l : FalseRead). ReadsIn l w.store.asked) same (record { rest = []; is = sym ends.asked })
 
-lie_within : (p : Public) (outline : Skeleton) (result : Result Outcome RunStop) (old new : World) (lie : Lie) → ServedCause p outline result old new → Calm old → new.store.lie ≡ Some lie → ReadsIn lie new.store.asked
+lie_within : (p : Public) (outline : Skeleton) (result : Result Outcome RunStop) (old new : World) (lie : FalseRead) → ServedCause p outline result old new → Untampered old → new.store.lie ≡ Some lie → ReadsIn lie new.store.asked
 lie_within p outline (Err (Tampered q x)) old new lie cause calm is = elim (cause.2 calm) [ inl still ↦ still.within lie is | inr ends ↦ ends_in q x new lie is ends ]
 lie_within p outline other old new lie cause calm is = (cause.1 calm).within lie is
 
@@ -81,7 +81,7 @@ module _ {R : Type 0} (state : R → RevState) (m0 m1 : Machine R) (d : Draws) (
   honest : m0.store.lie ≡ None
   honest = (steady.quiet (before_less m0.store.disturbed (length m0.store.asked) n few before)).lie
 
-  crosses_lied : (lie : Lie) → m1.store.lie ≡ Some lie → Crosses
+  crosses_lied : (lie : FalseRead) → m1.store.lie ≡ Some lie → Crosses
   crosses_lied lie is =
       let later = does.ran.later in
       let meant : ReadsIn lie all_met =
@@ -117,6 +117,6 @@ module _ {R : Type 0} (state : R → RevState) (m0 m1 : Machine R) (d : Draws) (
 
   pub crosses : Crosses
   crosses = go m1.store.lie refl where
-    go : (o : Option Lie) → m1.store.lie ≡ o → Crosses
+    go : (o : Option FalseRead) → m1.store.lie ≡ o → Crosses
     go None is = crosses_true is
     go (Some lie) is = crosses_lied lie is

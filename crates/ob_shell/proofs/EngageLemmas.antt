@@ -8,7 +8,7 @@ use Rattle.ob_tables.specs.Closing.{ClosesEngine, closing_script, next_closing}
 use Rattle.ob_reopen.specs.Closed.{is_used_up}
 use Rattle.ob_tables.specs.Reopening.{IsOpened, OpensEngine}
 use Rattle.ob_reopen.specs.Reopened.{NotOpened, opened_start, opening_script}
-use Rattle.ob_reopen.specs.Resting.{Rests}
+use Rattle.ob_reopen.specs.Resting.{IsAtRest}
 use Rattle.ob_headline.proofs.FlatLemmas.{opened_flat}
 use Rattle.ob_headline.specs.Bases.{Opened, reopened}
 use Rattle.ob_headline.specs.Keeping.{EndsWith, NotReopened, OpensClosing, opening_end}
@@ -115,10 +115,10 @@ module _ {R : Type 0} (state : R → RevState) (config : Config) (key : List ℕ
     drawn = subst (λ (k : KeySet). AreDraws e (first_draws k)) same is.drawn;
     calm = is.calm;
     used = λ some. omega (arith, is.high);
-    held = λ tables rested. opens.told rested.tells rested.honest tables (subst (λ (k : KeySet). Rests k closing s.kept tables) (sym same) rested.rests);
+    held = λ tables rested. opens.told rested.tells rested.honest tables (subst (λ (k : KeySet). IsAtRest k closing s.kept tables) (sym same) rested.rests);
     earlier = is.earlier;
     sealed = λ tells tables rested good passes scope few.
-        opens.sealed rested.tells rested.honest tables (subst (λ (k : KeySet). Rests k closing s.kept tables) (sym same) rested.rests) (λ r. good) passes.0.0.0 passes.0.1 scope
+        opens.sealed rested.tells rested.honest tables (subst (λ (k : KeySet). IsAtRest k closing s.kept tables) (sym same) rested.rests) (λ r. good) passes.0.0.0 passes.0.1 scope
         (omega (arith, few, is.did.faults));
     passes = λ good passes. passes.0.0;
     early = λ n before. absurd before;
@@ -148,7 +148,7 @@ module _ {R : Type 0} (state : R → RevState) (config : Config) (key : List ℕ
     did = is.did;
     tells = opens.tells;
     told = λ tells honest tables rests.
-        let holds = opens.told tells honest tables (subst (λ (k : KeySet). Rests k closing s.kept tables) (sym same) rests) in
+        let holds = opens.told tells honest tables (subst (λ (k : KeySet). IsAtRest k closing s.kept tables) (sym same) rests) in
         held_headings (public_of e).pack (indexes_of e) (public_of e).tables tables (world_of state e t) holds.held ∙ ap (λ (p : Public). headings_of p.tables) is.public;
     fits = λ lie told.
         let fits = is.calm.calm lie told in
@@ -162,7 +162,7 @@ not_reopened state config key keys same closing error ending is s t opens = reco
   error = error;
   ends = is;
   opened = subst (λ (k : KeySet). NotOpened closing k error s t) same opens.err;
-  honest = λ tells none tables rests. opens.told tells none tables (subst (λ (k : KeySet). Rests k closing s.kept tables) (sym same) rests);
+  honest = λ tells none tables rests. opens.told tells none tables (subst (λ (k : KeySet). IsAtRest k closing s.kept tables) (sym same) rests);
 }
 
 -- a mark of this pack

@@ -1,8 +1,8 @@
 -- At least as many calls of the store failed as statements were cut off, and as texts were answered so one by one.
-use Rattle.ob_shell.proofs.Words.{Answer, ap, arith, begins_batch, Bool, by_fault, Cut, cut_off, End, Err, false, Gathering, if◌then◌else◌, inserts_into, is_cut, is_fault, is_some, is_store_fault, Joined, length, List, None, Ok, Option, option_map, Outcome, Public, refl, Refusal, Refused, Rises, RisesBy, Seat, Seen, skeleton, Some, Spelt, statements, Stmt, subst, sym, take, true, ℕ, [], ◌++◌, ◌+◌, ◌∷◌, ◌≡◌, ◌≤◌}
+use Rattle.ob_shell.proofs.Words.{Answer, ap, arith, begins_batch, Bool, by_fault, Cut, cut_off, End, Err, false, Gathering, if◌then◌else◌, inserts_into, is_cut, is_fault, is_some, is_store_fault, Batched, length, List, None, Ok, Option, option_map, Outcome, Public, refl, Refusal, Refused, Rises, RisesBy, Position, Seen, skeleton, Some, Spelt, statements, Stmt, subst, sym, take, true, ℕ, [], ◌++◌, ◌+◌, ◌∷◌, ◌≡◌, ◌≤◌}
 use Rattle.ob_base.specs.declared.refusal.Refusal.TheVariants.{StoreFault}
-use Rattle.ob_headline.specs.Accesses.{AreSeen, cut_aloft}
-use Rattle.ob_headline.specs.Flights.{Stand}
+use Rattle.ob_headline.specs.Accesses.{AreSeen, cut_in_flight}
+use Rattle.ob_headline.specs.Flights.{LeftAt}
 use Rattle.ob_headline.specs.Batches.{is_failed}
 use Rattle.ob_headline.specs.Failures.{FailsBeside, failures, outcome_failures, refusal_failures}
 use Rattle.ob_mean.specs.Batches.{and_one, begun_by, gathering_after, goes_into}
@@ -51,13 +51,13 @@ unfolding cut_off
 cuts_more x seen n a b c first rest = let all = grows a b c (if is_cut x.seen.end then 1 else 0) (cut_off seen + n) first rest in omega (arith, all)
 
 -- no more than were cut off among those begun
-few_aloft : (o : Option Stand) (n : ℕ) → (if is_some o then n else 0) ≤ n
-few_aloft None n = omega arith
-few_aloft (Some stand) n = omega arith
+few_in_flight : (o : Option LeftAt) (n : ℕ) → (if is_some o then n else 0) ≤ n
+few_in_flight None n = omega arith
+few_in_flight (Some stand) n = omega arith
 
-pub cut_few : (seats : List Seat) (last : List Served) → cut_aloft seats last ≤ cut_off last
+pub cut_few : (positions : List Position) (last : List Served) → cut_in_flight positions last ≤ cut_off last
 cut_few [] last = omega arith
-cut_few (v ∷ seats) last = few_aloft v.left (cut_off last)
+cut_few (v ∷ positions) last = few_in_flight v.left (cut_off last)
 
 -- ---- of answers
 pub fails_none : (a b : ℕ) → a ≤ b → RisesBy (failures []) a b
@@ -109,7 +109,7 @@ gathers_sound p m g stmt end sound off = go (goes_into p g (skeleton stmt)) (beg
     go false false = refl
 
 not_failed : (g : Option Gathering) (end : End) → has_failed g ≡ false → is_cut end ≡ false → is_failed g end ≡ false
-not_failed g Joined sound off = sound
+not_failed g Batched sound off = sound
 not_failed g (Cut n) sound off = absurd (cc off)
 not_failed g end sound off = refl
 
@@ -118,20 +118,20 @@ none_cut true n is = absurd (omega (arith, is))
 none_cut false n is = (refl, omega (arith, is))
 
 -- of statements that were answered, before some that weren't
-pub none_failed : (Leaves : Public → Stmt → Seen → Type 0) (spelt : List Spelt) (answers : List Answer) (seen last : List Served) (seats : List Seat) (g : Option Gathering)
-    → AreSeen Leaves seats g spelt answers (seen ++ last) → length answers ≤ length spelt → length seen ≡ length (statements (take (length answers) spelt)) → has_failed g ≡ false → cut_off seen ≡ 0 → failures answers ≡ 0
+pub none_failed : (Leaves : Public → Stmt → Seen → Type 0) (spelt : List Spelt) (answers : List Answer) (seen last : List Served) (positions : List Position) (g : Option Gathering)
+    → AreSeen Leaves positions g spelt answers (seen ++ last) → length answers ≤ length spelt → length seen ≡ length (statements (take (length answers) spelt)) → has_failed g ≡ false → cut_off seen ≡ 0 → failures answers ≡ 0
 unfolding AreSeen cut_off failures statements
-none_failed Leaves spelt [] seen last seats g are reached each sound uncut = refl
-none_failed Leaves [] (one ∷ answers) seen last seats g are reached each sound uncut = absurd (omega (arith, reached))
-none_failed Leaves (Err at ∷ spelt) (one ∷ answers) seen last seats g are reached each sound uncut =
+none_failed Leaves spelt [] seen last positions g are reached each sound uncut = refl
+none_failed Leaves [] (one ∷ answers) seen last positions g are reached each sound uncut = absurd (omega (arith, reached))
+none_failed Leaves (Err at ∷ spelt) (one ∷ answers) seen last positions g are reached each sound uncut =
     let own : outcome_failures one.outcome ≡ 0 = ap (λ (a : Answer). outcome_failures a.outcome) are.0 in
-    let rest = none_failed Leaves spelt answers seen last seats None are.1 (omega (arith, reached)) each refl uncut in
+    let rest = none_failed Leaves spelt answers seen last positions None are.1 (omega (arith, reached)) each refl uncut in
     omega (arith, own, rest)
-none_failed Leaves (Ok stmt ∷ spelt) (one ∷ answers) [] last seats g are reached each sound uncut = absurd (omega (arith, each))
+none_failed Leaves (Ok stmt ∷ spelt) (one ∷ answers) [] last positions g are reached each sound uncut = absurd (omega (arith, each))
 none_failed Leaves (Ok stmt ∷ spelt) (one ∷ answers) (x ∷ seen) last [] g are reached each sound uncut = absurd are
-none_failed Leaves (Ok stmt ∷ spelt) (one ∷ answers) (x ∷ seen) last (v ∷ seats) g are reached each sound uncut =
+none_failed Leaves (Ok stmt ∷ spelt) (one ∷ answers) (x ∷ seen) last (v ∷ positions) g are reached each sound uncut =
     let parts = none_cut (is_cut x.seen.end) (cut_off seen) uncut in
     let fine : is_failed g x.seen.end ≡ false = not_failed g x.seen.end sound parts.0 in
     let own : outcome_failures one.outcome ≡ 0 = not_failure one.outcome (λ is. absurd (cc (are.2.1.1 is, fine))) in
-    let rest = none_failed Leaves spelt answers seen last seats _ are.3 (omega (arith, reached)) (omega (arith, each)) (gathers_sound v.public v.asked g stmt x.seen.end sound parts.0) parts.1 in
+    let rest = none_failed Leaves spelt answers seen last positions _ are.3 (omega (arith, reached)) (omega (arith, each)) (gathers_sound v.public v.asked g stmt x.seen.end sound parts.0) parts.1 in
     omega (arith, own, rest)

@@ -38,7 +38,7 @@ use Rattle.ob_inflight.specs.Closing.{Closed}
 use Rattle.ob_script.proofs.FlightEnds.{ends_whole}
 use Rattle.ob_script.specs.FlightLaws.{accesses_for}
 use Rattle.ob_script.specs.Flights.{flight_public, merge}
-use Rattle.ob_shell.proofs.AloftLemmas.{within_get}
+use Rattle.ob_shell.proofs.InFlightLemmas.{within_get}
 use Rattle.ob_shell.proofs.FlightSteady.{steady_flown}
 use Rattle.ob_shell.proofs.ReplayLemmas.{counts_on}
 use Rattle.ob_sql.specs.declared.stmt.SelectRows.{SelectRows}

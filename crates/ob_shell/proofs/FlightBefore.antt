@@ -1,5 +1,5 @@
 -- What flies before others disturb the store: the first of what it asks is meant, and each that had ended by then is as it is meant.
-use Rattle.ob_shell.proofs.Words.{Access, All, answer_labels, ap, append_assoc, arith, asked_of, Begins, Bool, cases_lt, Disturbance, Draws, drop, Err, false, headings, headings_of, inl, inr, IsBefore, IsSteady, IsTrue, length, length-append, length-map, List, Machine, map, MayFly, None, Ok, Option, option_map_or, outcome_of, Public, public_of, RanAloft, refl, Represents, Result, RevState, RunStop, Seen, served_as, served_long, Session, session_of, skeleton, slice_get, Some, Stmt, subst, suc, sym, Tables, take, take-append-drop, true, turns_of, zero, ℕ, [], ◌++◌, ◌+◌, ◌-◌, ◌<◌, ◌∙◌, ◌∷◌, ◌≡◌, ◌≤◌}
+use Rattle.ob_shell.proofs.Words.{Access, All, answer_labels, ap, append_assoc, arith, asked_of, Begins, Bool, cases_lt, Disturbance, Draws, drop, Err, false, headings, headings_of, inl, inr, IsBefore, IsSteady, IsTrue, length, length-append, length-map, List, Machine, map, MayFly, None, Ok, Option, option_map_or, outcome_of, Public, public_of, RanInFlight, refl, Represents, Result, RevState, RunStop, Seen, served_as, served_long, Session, session_of, skeleton, slice_get, Some, Stmt, subst, suc, sym, Tables, take, take-append-drop, true, turns_of, zero, ℕ, [], ◌++◌, ◌+◌, ◌-◌, ◌<◌, ◌∙◌, ◌∷◌, ◌≡◌, ◌≤◌}
 use Rattle.std.proofs.lemmas.List.{length-take, take-take, take_all}
 use Rattle.std.proofs.lemmas.Option.{slice_get_within}
 use Rattle.ob_exec.specs.RanFlight.{EndedWithin, asked_since, in_flight, meant_of, stopped_after}
@@ -19,9 +19,9 @@ use Rattle.ob_shell.proofs.EndedUntil.{ended_at, ended_until}
 use Rattle.ob_shell.proofs.FlightFacts.{fs, places}
 use Rattle.ob_shell.proofs.FlightSteady.{steady_flown}
 use Rattle.ob_shell.proofs.FlightUntil.{AsMeant, as_meant}
-use Rattle.ob_shell.proofs.FlownLists.{Flown, each_flown}
+use Rattle.ob_shell.proofs.FlownLists.{StmtInFlight, each_flown}
 use Rattle.ob_shell.proofs.ReplayLemmas.{free_holds}
-use Rattle.ob_shell.specs.Aloft.{asked_own}
+use Rattle.ob_shell.specs.FlightAnswers.{asked_own}
 use Rattle.ob_shell.specs.Steps.{Holds}
 
 -- ---- first parts of lists
@@ -85,17 +85,17 @@ module _ (p : Public) (flown : List Served) (words : ℕ → ℕ) (steady : AreS
 
 -- ---- of each
 -- one that has ended is answered and seen as it is meant, if it had ended by then
-pub record EarlySo (s : Session) (f : Flown) (how : Closed) : Type 0 where
-  pub answered : how.outcome ≡ outcome_of f.stmt (verdict f.seat.public f.seat.asked s.tables f.stmt)
-  pub shown : f.seen ≡ seen_by s.draws f.seat.public f.seat.asked s.tables f.stmt
-  pub prints : Prints (answer_labels f.stmt f.seat.public) (verdict f.seat.public f.seat.asked s.tables f.stmt) how.events
+pub record EarlySo (s : Session) (f : StmtInFlight) (how : Closed) : Type 0 where
+  pub answered : how.outcome ≡ outcome_of f.stmt (verdict f.position.public f.position.asked s.tables f.stmt)
+  pub shown : f.seen ≡ seen_by s.draws f.position.public f.position.asked s.tables f.stmt
+  pub prints : Prints (answer_labels f.stmt f.position.public) (verdict f.position.public f.position.asked s.tables f.stmt) how.events
 
-pub record MeansEarly (n : ℕ) (s : Session) (f : Flown) : Type 0 where
-  pub listed : headings s.tables ≡ headings_of f.seat.public.tables
-  pub told : (how : Closed) → f.closed ≡ Some how → f.seat.until ≤ n → EarlySo s f how
+pub record MeansEarly (n : ℕ) (s : Session) (f : StmtInFlight) : Type 0 where
+  pub listed : headings s.tables ≡ headings_of f.position.public.tables
+  pub told : (how : Closed) → f.closed ≡ Some how → f.position.until ≤ n → EarlySo s f how
 
 module _ {R : Type 0} (state : R → RevState) (m0 m1 : Machine R) (stmts : List Stmt) (seens : List Seen) (ended : List Closed) (result : Result (Unit {0}) RunStop) (may : MayFly state m0 m1 stmts)
-    (ran : RanAloft state m0.flights.words m1.flights.words stmts seens ended result m0.engine m0.store m1.engine m1.store) where
+    (ran : RanInFlight state m0.flights.words m1.flights.words stmts seens ended result m0.engine m0.store m1.engine m1.store) where
   abbrev p : Public
   p = public_of m0.engine
 

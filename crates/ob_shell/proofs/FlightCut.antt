@@ -1,36 +1,36 @@
 -- Where a stop came within a flight.
-use Rattle.ob_shell.proofs.Words.{All, Answer, answer_labels, answer_of, ap, append-nil, append_assoc, append_cancel_left, arith, asked_of, Bool, cases_lt, CutTogether, done_of, Draws, drop, Emitted, Err, false, inl, inr, is_tampered, length, length-append, List, LosesSome, Machine, nat_lt, None, Option, option_map_or, Outputs, printed, PrintsUntil, Public, public_of, Ran, RanAloft, ReadsTrueUntil, refl, RevState, RunStop, Seat, Seen, served_as, Session, session_of, session_stop, slice_get, Some, Spelt, statements, Stmt, subst, suc, sym, Tables, take, take-append-drop, Took, true, turns_of, World, zero, ℕ, [], ◌++◌, ◌+◌, ◌<◌, ◌∙◌, ◌∷◌, ◌≡◌, ◌≤◌, ◌⊎◌}
+use Rattle.ob_shell.proofs.Words.{All, Answer, answer_labels, answer_of, ap, append-nil, append_assoc, append_cancel_left, arith, asked_of, Bool, cases_lt, CutTogether, done_of, Draws, drop, Emitted, Err, false, inl, inr, is_tampered, length, length-append, List, LosesSome, Machine, nat_lt, None, Option, option_map_or, Outputs, printed, PrintsUntil, Public, public_of, Ran, RanInFlight, ReadsTrueUntil, refl, RevState, RunStop, Position, Seen, served_as, Session, session_of, session_stop, slice_get, Some, Spelt, statements, Stmt, subst, suc, sym, Tables, take, take-append-drop, Took, true, turns_of, World, zero, ℕ, [], ◌++◌, ◌+◌, ◌<◌, ◌∙◌, ◌∷◌, ◌≡◌, ◌≤◌, ◌⊎◌}
 use Rattle.ob_exec.specs.InFlight.{EndsAs, EndsMeant}
 use Rattle.ob_exec.specs.RanFlight.{FlightCause, StopsInTurn}
 use Rattle.ob_headline.proofs.FlightLeft.{ended_left}
 use Rattle.ob_headline.proofs.TakenLemmas.{LosesSo}
 use Rattle.ob_headline.proofs.UntilLemmas.{until_ended, until_not}
-use Rattle.ob_headline.specs.Accesses.{LeavesAloft, ends_within}
-use Rattle.ob_headline.specs.Flights.{EndedBy, GoesOn, asked_until, has_ended, seats_aloft, stand_at}
+use Rattle.ob_headline.specs.Accesses.{LeavesInFlight, ends_within}
+use Rattle.ob_headline.specs.Flights.{EndedBy, GoesOn, asked_until, has_ended, positions_in_flight, stand_at}
 use Rattle.ob_inflight.specs.Closing.{Closed}
 use Rattle.ob_mean.specs.Verdict.{verdict}
 use Rattle.ob_print.specs.Cuts.{IsCutOf}
 use Rattle.ob_script.proofs.FlightEnds.{all_ended, flying_long}
 use Rattle.ob_script.specs.Flights.{AreSteady, Flight, Flying, boarding, turns, Entry as Turn, flight_public}
 use Rattle.ob_script.specs.Trace.{Served as Entry}
-use Rattle.ob_shell.proofs.FlightEnd.{all_fs, aloft, in_all, left_walked, long_aloft, seats_left, spelt_left, taken_long, turn_of}
-use Rattle.ob_shell.proofs.FlightFacts.{ByThen, EachBy, first_answered, get_less, past_none, places, seats_are}
+use Rattle.ob_shell.proofs.FlightEnd.{all_fs, aloft, in_all, left_walked, long_in_flight, positions_left, spelt_left, taken_long, turn_of}
+use Rattle.ob_shell.proofs.FlightFacts.{ByThen, EachBy, first_answered, get_less, past_none, places, positions_are}
 use Rattle.ob_shell.proofs.FlightLast.{LastWalk}
 use Rattle.ob_shell.proofs.FlightMeant.{BeginsSo, Means, meant_so}
 use Rattle.ob_shell.proofs.FlightSeen.{FirstAnswered, IsIn, Stood}
 use Rattle.ob_shell.proofs.FlightStop.{nth_answered, prints_whole, taken_on}
-use Rattle.ob_shell.proofs.FlownLists.{Flown, Places, flown_at, flown_list, seats_in}
+use Rattle.ob_shell.proofs.FlownLists.{StmtInFlight, Places, flown_at, flown_list, positions_in}
 use Rattle.ob_shell.proofs.StopLemmas.{tampered_as, stop_untampered}
 use Rattle.ob_shell.proofs.WalkLemmas.{EarlyAt}
-use Rattle.ob_shell.specs.Aloft.{answers_of}
+use Rattle.ob_shell.specs.FlightAnswers.{answers_of}
 use Rattle.ob_tables.specs.Telling.{is_refused}
 use Rattle.ob_tables.specs.declared.stop.RunStop.TheVariants as Runs
 use Rattle.ob_shell.proofs.ReplayLemmas.{free_holds}
-use Rattle.ob_shell.proofs.WalkEntries.{seats_at}
+use Rattle.ob_shell.proofs.WalkEntries.{positions_at}
 use Rattle.ob_verdict.specs.Outcomes.{Emits, Partly}
 
 -- ---- what a sink took
--- of the one behind those that it took whole
+-- of the one after those that it took whole
 abbrev pub PrintsBehind : RunStop → (lost : List Answer) → (part left : List ℕ) → Type 0
 PrintsBehind run [] part left = PrintsUntil (session_stop run) left part
 PrintsBehind run (one ∷ lost) part left = PrintsUntil (session_stop run) left one.bytes
@@ -141,8 +141,8 @@ module _ (p : Public) (flown : List Entry) (words : ℕ → ℕ) (k count : ℕ)
       omega (arith, all, least)
 
 -- of a flight that was left the first of those from there on hadn't ended
-goes_from : (words : ℕ → ℕ) (p : Public) (m : ℕ) (all : List Entry) (asked i n j : ℕ) → asked ≤ asked_until words (i + j) (turns_of p all) (boarding p all) → GoesOn (drop j (seats_aloft p m all words (Some asked) i n))
-unfolding seats_aloft
+goes_from : (words : ℕ → ℕ) (p : Public) (m : ℕ) (all : List Entry) (asked i n j : ℕ) → asked ≤ asked_until words (i + j) (turns_of p all) (boarding p all) → GoesOn (drop j (positions_in_flight p m all words (Some asked) i n))
+unfolding positions_in_flight
 goes_from words p m all asked i zero zero on = tt
 goes_from words p m all asked i zero (suc j) on = tt
 goes_from words p m all asked i (suc n) zero on =
@@ -192,7 +192,7 @@ module _ (p : Public) (flown : List Entry) (words : ℕ → ℕ) (k count : ℕ)
     | inr over ↦ absurd (cc ((all_ended p flown words steady stops.turn over).each i f is, stops.ended i f is, not_less i count past))
   ]
 
-  -- the next one had not ended before, nor had any behind it
+  -- the next one had not ended before, nor had any after it
   pub going_past : k ≤ asked_until words i (turns_of p flown) (boarding p flown)
   going_past = going_by (slice_get at_turn.flying i) refl
 
@@ -201,10 +201,10 @@ going_on p flown words k count steady less stops = going_past p flown words k co
 
 module _ {R : Type 0} (state : R → RevState) (m1 m2 : Machine R) (more : List (List ℕ)) (bytes : List ℕ) (w0 w1 : Option (List ℕ)) (Lost : Type 0) (first : List Answer) (run : RunStop) (done : CutTogether state m1 m2 more run bytes)
     (steady : AreSteady (public_of m1.engine) (served_as done.stmts done.seens)) where
-  abbrev ran : RanAloft {T = Unit {0}} state m1.flights.words m2.flights.words done.stmts done.seens done.flew.ended (Err run) m1.engine m1.store m2.engine m2.store
+  abbrev ran : RanInFlight {T = Unit {0}} state m1.flights.words m2.flights.words done.stmts done.seens done.flew.ended (Err run) m1.engine m1.store m2.engine m2.store
   ran = done.flew.ran
 
-  abbrev fs_cut : List Flown
+  abbrev fs_cut : List StmtInFlight
   fs_cut = all_fs state m1 m2 done.stmts done.seens done.flew.ended (Err run) done.may ran
 
   abbrev total : ℕ
@@ -228,8 +228,8 @@ module _ {R : Type 0} (state : R → RevState) (m1 m2 : Machine R) (more : List 
   long_flown : length done.stmts ≡ length flown
   long_flown = sym (served_few done.stmts done.seens ran.long)
 
-  pub had : (j : ℕ) → j ≤ e → All (λ (v : Seat). EndedBy v.left v) (take j (seats_in fs_cut))
-  had j few = subst (λ (vs : List Seat). All (λ (v : Seat). EndedBy v.left v) (take j vs)) (sym (seats_are state m1 m2 done.stmts done.seens done.flew.ended (Err run) done.may ran (Some total)))
+  pub had : (j : ℕ) → j ≤ e → All (λ (v : Position). EndedBy v.left v) (take j (positions_in fs_cut))
+  had j few = subst (λ (vs : List Position). All (λ (v : Position). EndedBy v.left v) (take j vs)) (sym (positions_are state m1 m2 done.stmts done.seens done.flew.ended (Err run) done.may ran (Some total)))
       (ended_left m1.flights.words p (asked_of m1) flown total 0 (length flown) j (λ k less.
       ended_by p flown m1.flights.words total e steady (omega (arith, less_e, long_flown)) ran.turn (0 + k) (omega (arith, less, few))))
 
@@ -240,7 +240,7 @@ module _ {R : Type 0} (state : R → RevState) (m1 m2 : Machine R) (more : List 
   are_by : EachBy m1.flights.words p flown done.flew.ended total (length done.stmts)
   are_by i less = by_then i (omega (arith, less, long_flown)) (slice_get done.flew.ended i) refl
 
-  abbrev next_one : Option Closed → Flown
+  abbrev next_one : Option Closed → StmtInFlight
   next_one closed = flown_at at e done.flew.stmt done.flew.seen closed
 
   next_at : slice_get fs_cut e ≡ Some (next_one (slice_get done.flew.ended e))
@@ -291,14 +291,14 @@ module _ {R : Type 0} (state : R → RevState) (m1 m2 : Machine R) (more : List 
     ]
 
   begins_cut : (kept lost : List Answer) → answers_of done.flew.ended done.seens ≡ kept ++ lost → (left : List ℕ) → PrintsBehind run lost done.flew.part left
-      → (d : Draws) (tables : Tables) → ReadsTrueUntil state m1.engine m1.store m2.engine m2.store tables → (f : Flown) → slice_get fs_cut (length kept) ≡ Some f → Stood f → IsIn f → Means (session_of m1 d tables) f → BeginsSo (Ran (Err (session_stop run))) (session_of m1 d tables) f left
+      → (d : Draws) (tables : Tables) → ReadsTrueUntil state m1.engine m1.store m2.engine m2.store tables → (f : StmtInFlight) → slice_get fs_cut (length kept) ≡ Some f → Stood f → IsIn f → Means (session_of m1 d tables) f → BeginsSo (Ran (Err (session_stop run))) (session_of m1 d tables) f left
   begins_cut kept [] parts left prints d tables reads f is stood inn means =
       let long = ap length parts ∙ ap length (append-nil kept) in
       let few = answers_few done.flew.ended done.seens (let all = ran.long in omega (arith, all, less_e)) in
       let n : length kept ≡ e = omega (arith, long, few) in
       let same : next_one (slice_get done.flew.ended e) ≡ f = let both : Some (next_one (slice_get done.flew.ended e)) ≡ Some f = sym next_at ∙ ap (slice_get fs_cut) (sym n) ∙ is in cc both in
-      subst (λ (x : Flown). BeginsSo (Ran (Err (session_stop run))) (session_of m1 d tables) x left) same
-      (begins_next d tables reads left prints (slice_get done.flew.ended e) (subst Stood (sym same) stood) (subst (λ (x : Flown). Means (session_of m1 d tables) x) (sym same) means))
+      subst (λ (x : StmtInFlight). BeginsSo (Ran (Err (session_stop run))) (session_of m1 d tables) x left) same
+      (begins_next d tables reads left prints (slice_get done.flew.ended e) (subst Stood (sym same) stood) (subst (λ (x : StmtInFlight). Means (session_of m1 d tables) x) (sym same) means))
   begins_cut kept (one ∷ lost) parts left prints d tables reads f is stood inn means =
       let each = first_answered at 0 done.stmts done.seens done.flew.ended (kept ++ (one ∷ lost)) [] ran.long (omega (arith, less_e)) (parts ∙ sym (append-nil (kept ++ (one ∷ lost)))) in
       let own = meant_so (session_of m1 d tables) f one stood (nth_answered fs_cut kept one lost f each is) means in
@@ -313,15 +313,15 @@ module _ {R : Type 0} (state : R → RevState) (m1 m2 : Machine R) (more : List 
   abbrev pub spelt_cut : List Spelt
   spelt_cut = spelt_left state m1 m2 done.stmts done.seens done.flew.ended (Err run) done.may ran
 
-  goes_cut : (j : ℕ) → j ≡ e → GoesOn (drop j (seats_at m1 entries_cut))
+  goes_cut : (j : ℕ) → j ≡ e → GoesOn (drop j (positions_at m1 entries_cut))
   goes_cut j is =
-      subst (λ (vs : List Seat). GoesOn (drop j vs)) (sym (seats_are state m1 m2 done.stmts done.seens done.flew.ended (Err run) done.may ran (Some total)) ∙ seats_left state m1 m2 done.stmts done.seens done.flew.ended (Err run) done.may ran)
+      subst (λ (vs : List Position). GoesOn (drop j vs)) (sym (positions_are state m1 m2 done.stmts done.seens done.flew.ended (Err run) done.may ran (Some total)) ∙ positions_left state m1 m2 done.stmts done.seens done.flew.ended (Err run) done.may ran)
       (goes_from m1.flights.words p (asked_of m1) flown total 0 (length flown) j
       (let same : e ≡ 0 + j = omega (arith, is) in
       subst (λ (k : ℕ). total ≤ asked_until m1.flights.words k (turns_of p flown) (boarding p flown)) same (going_on p flown m1.flights.words total e steady (omega (arith, less_e, long_flown)) ran.turn)))
 
   pub cut_last : Outputs w0 w1 Lost (printed first ++ bytes) → Took w0 w1 (printed first)
-      → ((kept : List Answer) → length kept ≤ e → LeavesAloft (Ran (Err (session_stop run))) m2.store.asked (drop (length (take (length kept) here)) (seats_at m1 entries_cut)) (statements (drop (length (take (length kept) done.flown)) spelt_cut)) (drop (length kept) here))
+      → ((kept : List Answer) → length kept ≤ e → LeavesInFlight (Ran (Err (session_stop run))) m2.store.asked (drop (length (take (length kept) here)) (positions_at m1 entries_cut)) (statements (drop (length (take (length kept) done.flown)) spelt_cut)) (drop (length kept) here))
       → ((kept : List Answer) → FirstAnswered fs_cut kept → EarlyAt state m1 m2 entries_cut spelt_cut kept (take (length kept) here ++ drop (length kept) here))
       → LastWalk state (Ran (Err (session_stop run))) m1 m2 more bytes w0 w1 Lost first
   cut_last out whole wants early =
@@ -331,8 +331,8 @@ module _ {R : Type 0} (state : R → RevState) (m1 m2 : Machine R) (more : List 
       let few = answers_few done.flew.ended done.seens (let all = ran.long in omega (arith, all, less_e)) in
       let under : n ≤ e = omega (arith, sum, few) in
       let each = first_answered at 0 done.stmts done.seens done.flew.ended on.kept on.lost ran.long (omega (arith, less_e)) on.parts in
-      let taken : length (take n here) ≡ n = taken_long n here (let long = long_aloft state m1 m2 done.stmts done.seens done.flew.ended (Err run) done.may ran in omega (arith, long, under, less_e)) in
-      let goes : GoesOn (drop (length (take n here)) (seats_at m1 entries_cut)) ⊎ LosesSome Lost (Ran (Err (session_stop run))) = elim on.why [
+      let taken : length (take n here) ≡ n = taken_long n here (let long = long_in_flight state m1 m2 done.stmts done.seens done.flew.ended (Err run) done.may ran in omega (arith, long, under, less_e)) in
+      let goes : GoesOn (drop (length (take n here)) (positions_at m1 entries_cut)) ⊎ LosesSome Lost (Ran (Err (session_stop run))) = elim on.why [
         | inl none ↦ let gone = ap length none in inl (goes_cut (length (take n here)) (omega (arith, taken, sum, few, gone)))
         | inr why ↦ elim why [
           | inl lost ↦ inr (inl lost)

@@ -6,7 +6,7 @@ use Rattle.ob_headline.specs.Failures.{failures, outcome_failures}
 use Rattle.ob_script.specs.FlightLaws.{one_if, total}
 use Rattle.ob_script.specs.Trace.{Served}
 use Rattle.ob_shell.proofs.FlightSeen.{AllAnswered, Stood, flown_ends}
-use Rattle.ob_shell.proofs.FlownLists.{Flown, served_in_all}
+use Rattle.ob_shell.proofs.FlownLists.{StmtInFlight, served_in_all}
 use Rattle.ob_shell.proofs.WalkLemmas.{or_first, or_rest}
 
 one_of : (b : Bool) → one_if b ≡ (if b then 1 else 0)
@@ -46,7 +46,7 @@ by_fault_one : (o : Outcome) → outcome_failures o ≡ (if is_fault o then 1 el
 by_fault_one (Refused r) = refl
 by_fault_one other = refl
 
-pub failed_same : (fs : List Flown) (given : List Answer) → All Stood fs → AllAnswered fs given → failures given ≡ cut_off (served_in_all fs)
+pub failed_same : (fs : List StmtInFlight) (given : List Answer) → All Stood fs → AllAnswered fs given → failures given ≡ cut_off (served_in_all fs)
 unfolding failures cut_off
 failed_same [] [] stood all = refl
 failed_same [] (one ∷ given) stood all = absurd all

@@ -1,16 +1,16 @@
 -- What is known of each statement of a flight, from what the engine did.
-use Rattle.ob_shell.proofs.Words.{All, All-head, All-tail, Answer, answer_of, ap, AreSpelt, arith, asked_of, Draws, drop, Emitted, headings, headings_of, IsFlown, length, List, Machine, map, may_fly, MayFly, None, Ok, Option, Public, public_of, RanAloft, ReadsTrueUntil, refl, Result, RevState, RunStop, Seen, served_as, served_long, Session, session_of, skeleton, slice_get, Some, SpellFirst, Spelt, statements, Stmt, subst, suc, sym, Tables, take, true, turns_of, zero, ℕ, [], ◌++◌, ◌+◌, ◌<◌, ◌∙◌, ◌∷◌, ◌≡◌, ◌≤◌}
+use Rattle.ob_shell.proofs.Words.{All, All-head, All-tail, Answer, answer_of, ap, AreSpelt, arith, asked_of, Draws, drop, Emitted, headings, headings_of, IsFlown, length, List, Machine, map, may_fly, MayFly, None, Ok, Option, Public, public_of, RanInFlight, ReadsTrueUntil, refl, Result, RevState, RunStop, Seen, served_as, served_long, Session, session_of, skeleton, slice_get, Some, SpellFirst, Spelt, statements, Stmt, subst, suc, sym, Tables, take, true, turns_of, zero, ℕ, [], ◌++◌, ◌+◌, ◌<◌, ◌∙◌, ◌∷◌, ◌≡◌, ◌≤◌}
 use Rattle.ob_exec.specs.InFlight.{IsMeant}
 use Rattle.ob_exec.specs.RanFlight.{asked_by, asked_since, carried_out}
-use Rattle.ob_headline.specs.Flights.{asked_until, seat_aloft, seats_aloft, stand_at}
+use Rattle.ob_headline.specs.Flights.{asked_until, position_in_flight, positions_in_flight, stand_at}
 use Rattle.ob_inflight.specs.Closing.{Closed}
 use Rattle.ob_script.specs.Flights.{boarding, flight_public}
 use Rattle.ob_script.specs.Trace.{Served}
 use Rattle.ob_shell.proofs.FlightMeant.{AllMean, Means, meant_so}
 use Rattle.ob_shell.proofs.FlightSeen.{AllAnswered, FirstAnswered, GoesBy, IsIn, PlacesFrom, Stood, flown_places}
-use Rattle.ob_shell.proofs.FlownLists.{Flown, Places, each_flown, flown_at, flown_list, flown_seats, flown_served, flown_stmts, seats_in, served_in_all, stmts_in}
+use Rattle.ob_shell.proofs.FlownLists.{StmtInFlight, Places, each_flown, flown_at, flown_list, flown_positions, flown_served, flown_stmts, positions_in, served_in_all, stmts_in}
 use Rattle.ob_shell.proofs.HowLemmas.{may_by}
-use Rattle.ob_shell.specs.Aloft.{answers_of, asked_own}
+use Rattle.ob_shell.specs.FlightAnswers.{answers_of, asked_own}
 
 -- ---- lists
 pub all_get : {A : Type 0} (P : A → Type 0) (xs : List A) → All P xs → (k : ℕ) (x : A) → slice_get xs k ≡ Some x → P x
@@ -53,7 +53,7 @@ first_answered at i (stmt ∷ stmts) (seen ∷ seens) (one ∷ ended) (a ∷ kep
     (record { how = one; closed = refl; is = sym head }, first_answered at (i + 1) stmts seens ended kept lost (omega (arith, long)) (omega (arith, few)) rest)
 
 -- ---- what they mean
-pub all_mean : (s : Session) (fs : List Flown) (given : List Answer) → All Stood fs → All (Means s) fs → AllAnswered fs given → AllMean s fs given
+pub all_mean : (s : Session) (fs : List StmtInFlight) (given : List Answer) → All Stood fs → All (Means s) fs → AllAnswered fs given → AllMean s fs given
 all_mean s [] [] stood means all = tt
 all_mean s [] (one ∷ given) stood means all = absurd all
 all_mean s (f ∷ fs) [] stood means all = absurd all
@@ -96,13 +96,13 @@ abbrev pub EachBy : (words : ℕ → ℕ) → Public → List Served → List Cl
 EachBy words p flown ended asked n = (i : ℕ) → i < n → ByThen (slice_get ended i) (asked_until words i (turns_of p flown) (boarding p flown)) asked
 
 goes_by : (words : ℕ → ℕ) (p : Public) (m : ℕ) (flown : List Served) (asked i : ℕ) (o : Option Closed) → ByThen o (asked_until words i (turns_of p flown) (boarding p flown)) asked
-    → GoesBy o (Some (stand_at p flown words i asked)) (seat_aloft p m flown words (Some asked) i)
+    → GoesBy o (Some (stand_at p flown words i asked)) (position_in_flight p m flown words (Some asked) i)
 goes_by words p m flown asked i (Some one) by = omega (arith, by)
 goes_by words p m flown asked i None by = omega (arith, by)
 
 -- ---- of each
 module _ {R : Type 0} (state : R → RevState) (m0 m1 : Machine R) (stmts : List Stmt) (seens : List Seen) (ended : List Closed) (result : Result (Unit {0}) RunStop) (may : MayFly state m0 m1 stmts)
-    (ran : RanAloft state m0.flights.words m1.flights.words stmts seens ended result m0.engine m0.store m1.engine m1.store) (left : Option ℕ) where
+    (ran : RanInFlight state m0.flights.words m1.flights.words stmts seens ended result m0.engine m0.store m1.engine m1.store) (left : Option ℕ) where
   abbrev p : Public
   p = public_of m0.engine
 
@@ -114,12 +114,12 @@ module _ {R : Type 0} (state : R → RevState) (m0 m1 : Machine R) (stmts : List
 
   abbrev pub places : Places
   places = record {
-    seat = seat_aloft p (asked_of m0) flown words left;
+    position = position_in_flight p (asked_of m0) flown words left;
     own = asked_own p words stmts seens m0.store m1.store;
     done = asked_by p words stmts seens (carried_out result (asked_since m0.store m1.store));
   }
 
-  abbrev pub fs : List Flown
+  abbrev pub fs : List StmtInFlight
   fs = flown_list places 0 stmts seens ended
 
   long_is : length stmts ≡ length flown
@@ -128,7 +128,7 @@ module _ {R : Type 0} (state : R → RevState) (m0 m1 : Machine R) (stmts : List
   zero_more : (k : ℕ) → 0 + k ≡ k
   zero_more k = omega arith
 
-  at_place : (P : Flown → Type 0) (k : ℕ) (stmt : Stmt) (seen : Seen) (closed : Option Closed) → P (flown_at places k stmt seen closed) → P (flown_at places (0 + k) stmt seen closed)
+  at_place : (P : StmtInFlight → Type 0) (k : ℕ) (stmt : Stmt) (seen : Seen) (closed : Option Closed) → P (flown_at places k stmt seen closed) → P (flown_at places (0 + k) stmt seen closed)
   at_place P k stmt seen closed = subst (λ (n : ℕ). P (flown_at places n stmt seen closed)) (sym (zero_more k))
 
   pub all_stood : All Stood fs
@@ -141,27 +141,27 @@ module _ {R : Type 0} (state : R → RevState) (m0 m1 : Machine R) (stmts : List
   pub all_places : PlacesFrom 0 fs
   all_places = flown_places places (λ i. refl) 0 stmts seens ended
 
-  pub all_unleft : left ≡ None → All (λ (f : Flown). f.seat.left ≡ None) fs
-  all_unleft none = each_flown places (λ (f : Flown). f.seat.left ≡ None) 0 stmts seens ended (λ k stmt seen get shown. ap (λ (o : Option ℕ). (seat_aloft p (asked_of m0) flown words o (0 + k)).left) none)
+  pub all_unleft : left ≡ None → All (λ (f : StmtInFlight). f.position.left ≡ None) fs
+  all_unleft none = each_flown places (λ (f : StmtInFlight). f.position.left ≡ None) 0 stmts seens ended (λ k stmt seen get shown. ap (λ (o : Option ℕ). (position_in_flight p (asked_of m0) flown words o (0 + k)).left) none)
 
   -- where so many accesses were asked when they were left
   pub in_at : left ≡ Some (asked_since m0.store m1.store) → EachBy words p flown ended (asked_since m0.store m1.store) (length stmts) → (k : ℕ) (stmt : Stmt) → slice_get stmts k ≡ Some stmt
-      → GoesBy (slice_get ended k) (places.seat (0 + k)).left (places.seat (0 + k))
+      → GoesBy (slice_get ended k) (places.position (0 + k)).left (places.position (0 + k))
   in_at is each k stmt get =
-      subst (λ (o : Option ℕ). GoesBy (slice_get ended k) (seat_aloft p (asked_of m0) flown words o (0 + k)).left (seat_aloft p (asked_of m0) flown words o (0 + k))) (sym is)
-      (subst (λ (n : ℕ). GoesBy (slice_get ended k) (Some (stand_at p flown words n (asked_since m0.store m1.store))) (seat_aloft p (asked_of m0) flown words (Some (asked_since m0.store m1.store)) n)) (sym (zero_more k))
+      subst (λ (o : Option ℕ). GoesBy (slice_get ended k) (position_in_flight p (asked_of m0) flown words o (0 + k)).left (position_in_flight p (asked_of m0) flown words o (0 + k))) (sym is)
+      (subst (λ (n : ℕ). GoesBy (slice_get ended k) (Some (stand_at p flown words n (asked_since m0.store m1.store))) (position_in_flight p (asked_of m0) flown words (Some (asked_since m0.store m1.store)) n)) (sym (zero_more k))
       (goes_by words p (asked_of m0) flown (asked_since m0.store m1.store) k (slice_get ended k) (each k (get_less stmts k stmt get))))
 
   pub all_in : left ≡ Some (asked_since m0.store m1.store) → EachBy words p flown ended (asked_since m0.store m1.store) (length stmts) → All IsIn fs
   all_in is each = each_flown places IsIn 0 stmts seens ended (λ k stmt seen get shown. record {
     stand = stand_at p flown words (0 + k) (asked_since m0.store m1.store);
-    left = ap (λ (o : Option ℕ). (seat_aloft p (asked_of m0) flown words o (0 + k)).left) is;
+    left = ap (λ (o : Option ℕ). (position_in_flight p (asked_of m0) flown words o (0 + k)).left) is;
     own = refl;
     by = in_at is each k stmt get;
   })
 
-  pub seats_are : seats_in fs ≡ seats_aloft p (asked_of m0) flown words left 0 (length flown)
-  seats_are = flown_seats places p (asked_of m0) flown words left (λ i. refl) 0 stmts seens ended ran.long ∙ ap (λ (n : ℕ). seats_aloft p (asked_of m0) flown words left 0 n) long_is
+  pub positions_are : positions_in fs ≡ positions_in_flight p (asked_of m0) flown words left 0 (length flown)
+  positions_are = flown_positions places p (asked_of m0) flown words left (λ i. refl) 0 stmts seens ended ran.long ∙ ap (λ (n : ℕ). positions_in_flight p (asked_of m0) flown words left 0 n) long_is
 
   pub served_are : served_in_all fs ≡ flown
   served_are = flown_served places 0 stmts seens ended

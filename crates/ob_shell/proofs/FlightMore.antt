@@ -1,28 +1,28 @@
 -- One step more of a walk: texts that were answered together.
-use Rattle.ob_shell.proofs.Words.{All, Answer, ap, append_assoc, AreDraws, arith, Bool, cut_off, Draws, drop, Ending, engine_start, false, Given, Index, indexes_of, IsTrue, KeySet, length, length-append, length-map, Lie, List, Machine, map, None, Ok, Option, Public, public_of, ReadsTrueUntil, refl, RevState, RisesBy, Seat, served_as, session_of, Some, SpellFirst, Spelt, Start, statements, statements_of, StepTogether, Stmt, subst, sym, Tables, turns_of, ℕ, ◌++◌, ◌+◌, ◌<◌, ◌∙◌, ◌∷◌, ◌≡◌, ◌⊎◌}
+use Rattle.ob_shell.proofs.Words.{All, Answer, ap, append_assoc, AreDraws, arith, Bool, cut_off, Draws, drop, Ending, engine_start, false, Given, Index, indexes_of, IsTrue, KeySet, length, length-append, length-map, FalseRead, List, Machine, map, None, Ok, Option, Public, public_of, ReadsTrueUntil, refl, RevState, RisesBy, Position, served_as, session_of, Some, SpellFirst, Spelt, Start, statements, statements_of, StepTogether, Stmt, subst, sym, Tables, turns_of, ℕ, ◌++◌, ◌+◌, ◌<◌, ◌∙◌, ◌∷◌, ◌≡◌, ◌⊎◌}
 use Rattle.ob_base.specs.Indexes.{leaf_of_draw}
 use Rattle.ob_exec.proofs.LeavesRead.{KeyAt, Unread}
-use Rattle.ob_headline.specs.Accesses.{AreSeen, LeavesAloft, StopsWithin, any_cut, cut_aloft}
+use Rattle.ob_headline.specs.Accesses.{AreSeen, LeavesInFlight, StopsWithin, any_cut, cut_in_flight}
 use Rattle.ob_headline.specs.Flights.{GoesOn, after_entries, whole_of}
 use Rattle.ob_mean.specs.Replay.{Broken}
 use Rattle.ob_script.proofs.FlightLemmas.{next_after}
 use Rattle.ob_script.specs.Flights.{Entry as Turn}
 use Rattle.ob_script.specs.Trace.{Served as Entry}
-use Rattle.ob_shell.proofs.CalmLemmas.{first_calm}
+use Rattle.ob_shell.proofs.UntamperedLemmas.{first_calm}
 use Rattle.ob_shell.proofs.FlightCuts.{any_first, any_rest, cut_same, failed_same, failures_more, none_cut}
 use Rattle.ob_shell.proofs.FlightFacts.{all_mean, all_means, drop_more, spell_flown, spelt_long, statements_more}
 use Rattle.ob_shell.proofs.FlightLeaves.{leaves_flown}
 use Rattle.ob_shell.proofs.FlightMeant.{AreStill, Told, told_as, told_same, whole_meant}
 use Rattle.ob_shell.proofs.FlightSeen.{answered_long, cut_more}
-use Rattle.ob_shell.proofs.FlightWalk.{after_on, all_fs, aloft, answered, are_served, are_stmts, flown_drawn, flown_entries, flown_seen, long_aloft, long_fs, public_on, seats_on, stood, trace_on, turn_of}
-use Rattle.ob_shell.proofs.FlownLists.{Flown, seats_in, stmts_in}
+use Rattle.ob_shell.proofs.FlightWalk.{after_on, all_fs, aloft, answered, are_served, are_stmts, flown_drawn, flown_entries, flown_seen, long_in_flight, long_fs, public_on, positions_on, stood, trace_on, turn_of}
+use Rattle.ob_shell.proofs.FlownLists.{StmtInFlight, positions_in, stmts_in}
 use Rattle.ob_shell.proofs.LeafLemmas.{Reads}
 use Rattle.ob_shell.proofs.LeavePath.{HaveLanded, Path, together_along, together_so}
 use Rattle.ob_shell.proofs.ReplayLemmas.{free_holds, holds_free, no_lie}
-use Rattle.ob_shell.proofs.WalkEntries.{seats_at, trace_at, whole_flown}
-use Rattle.ob_shell.proofs.WalkLemmas.{Behind, EarlyAt, Full, Walked, world}
+use Rattle.ob_shell.proofs.WalkEntries.{positions_at, trace_at, whole_flown}
+use Rattle.ob_shell.proofs.WalkLemmas.{AfterTexts, EarlyAt, Full, Walked, world}
 use Rattle.ob_shell.specs.Steps.{Holds}
-use Rattle.ob_vault.specs.Tied.{Calm, IsUnfit, TagFits}
+use Rattle.ob_vault.specs.Tied.{Untampered, IsUnfit, TagFits}
 
 -- what is known of the keys of indexes is of the same ones
 abbrev given_by : (d : Draws) (xs ys : List Index) → xs ≡ ys → Given d xs → Given d ys
@@ -34,7 +34,7 @@ given_by d xs ys same g = record {
 }
 
 module _ {R : Type 0} (state : R → RevState) (m0 m1 : Machine R) (flown : List (List ℕ)) (given : List Answer) (step : StepTogether state m0 m1 flown given) where
-  abbrev pub here : List Flown
+  abbrev pub here : List StmtInFlight
   here = all_fs state m0 m1 flown given step
 
   abbrev pub up : List Entry
@@ -47,7 +47,7 @@ module _ {R : Type 0} (state : R → RevState) (m0 m1 : Machine R) (flown : List
   at_turn = turn_of state m0 m1 flown given step
 
   long_spelt : length spelt_up ≡ length here
-  long_spelt = length-map (stmts_in here) Ok ∙ length-map here (λ (f : Flown). f.stmt)
+  long_spelt = length-map (stmts_in here) Ok ∙ length-map here (λ (f : StmtInFlight). f.stmt)
 
   long_texts : length flown ≡ length here
   long_texts = spelt_long flown step.stmts step.spelt ∙ sym (long_fs state m0 m1 flown given step)
@@ -56,7 +56,7 @@ module _ {R : Type 0} (state : R → RevState) (m0 m1 : Machine R) (flown : List
   long_given = answered_long here given (answered state m0 m1 flown given step)
 
   long_up : length up ≡ length here
-  long_up = long_aloft state m0 m1 flown given step ∙ sym (long_fs state m0 m1 flown given step)
+  long_up = long_in_flight state m0 m1 flown given step ∙ sym (long_fs state m0 m1 flown given step)
 
   -- the store's failures
   cuts_up : RisesBy (cut_off up) m0.store.faults m1.store.faults
@@ -96,28 +96,28 @@ module _ {R : Type 0} (state : R → RevState) (m0 m1 : Machine R) (flown : List
   }
 
   -- over tables that are held
-  module _ (d : Draws) (drawn : AreDraws m0.engine d) (tables : Tables) (held : Holds state m0 d tables) (tells : IsTrue m0.store.tells) (calm : Calm (world state m0)) (unfit : IsUnfit (world state m1)) where
+  module _ (d : Draws) (drawn : AreDraws m0.engine d) (tables : Tables) (held : Holds state m0 d tables) (tells : IsTrue m0.store.tells) (calm : Untampered (world state m0)) (unfit : IsUnfit (world state m1)) where
     reads : ReadsTrueUntil state m0.engine m0.store m1.engine m1.store tables
     reads = record { tells = tells; held = free_holds state m0 d tables step.may.free held; calm = calm; unfit = unfit }
 
     held_on : Holds state m1 d tables
     held_on = holds_free state m1 d tables step.may.owed (step.flew.ran.means.held tables reads)
 
-    told_up : (ending : Ending) (seats : List Seat) (spelt : List Spelt) (answers : List Answer) (seen : List Entry) (part : List ℕ) (Inner : Broken → Tables → Type 0) → Told ending seats (session_of m1 d tables) spelt answers seen part Inner
-        → Told ending (seats_in here ++ seats) (session_of m0 d tables) (spelt_up ++ spelt) (given ++ answers) (up ++ seen) part (λ broken ts. AreStill (session_of m0 d tables) here given broken × Inner (drop (length here) broken) ts)
-    told_up ending seats spelt answers seen part Inner rest =
-        whole_meant ending (session_of m0 d tables) seats spelt answers seen part Inner (λ t ts ds. told_same ending (session_of m1 d tables) t ts ds seats spelt answers seen part Inner rest) here given
+    told_up : (ending : Ending) (positions : List Position) (spelt : List Spelt) (answers : List Answer) (seen : List Entry) (part : List ℕ) (Inner : Broken → Tables → Type 0) → Told ending positions (session_of m1 d tables) spelt answers seen part Inner
+        → Told ending (positions_in here ++ positions) (session_of m0 d tables) (spelt_up ++ spelt) (given ++ answers) (up ++ seen) part (λ broken ts. AreStill (session_of m0 d tables) here given broken × Inner (drop (length here) broken) ts)
+    told_up ending positions spelt answers seen part Inner rest =
+        whole_meant ending (session_of m0 d tables) positions spelt answers seen part Inner (λ t ts ds. told_same ending (session_of m1 d tables) t ts ds positions spelt answers seen part Inner rest) here given
         (all_mean (session_of m0 d tables) here given (stood state m0 m1 flown given step)
         (all_means state m0 m1 step.stmts step.seens step.flew.ended (Ok tt) step.may step.flew.ran None d tables held.listed reads) (answered state m0 m1 flown given step))
         (session_of m0 d tables) refl refl
 
-  unfit_on : (m2 : Machine R) → m2.engine.vault.keys ≡ m1.engine.vault.keys → engine_start m2.engine ≡ engine_start m1.engine → ((lie : Lie) → m1.store.lie ≡ Some lie → m2.store.lie ≡ Some lie) → IsUnfit (world state m2) → IsUnfit (world state m1)
+  unfit_on : (m2 : Machine R) → m2.engine.vault.keys ≡ m1.engine.vault.keys → engine_start m2.engine ≡ engine_start m1.engine → ((lie : FalseRead) → m1.store.lie ≡ Some lie → m2.store.lie ≡ Some lie) → IsUnfit (world state m2) → IsUnfit (world state m1)
   unfit_on m2 keys start stays unfit = record {
     unfit = λ lie is fits. unfit.unfit lie (stays lie is)
         (subst (λ (x : Start). TagFits m2.engine.vault.keys x lie) (sym start) (subst (λ (k : KeySet). TagFits k (engine_start m1.engine) lie) (sym keys) fits));
   }
 
-  none_on : (o : Option Lie) (m2 : Machine R) → m1.store.lie ≡ o → ((lie : Lie) → m1.store.lie ≡ Some lie → m2.store.lie ≡ Some lie) → m2.store.lie ≡ None → m1.store.lie ≡ None
+  none_on : (o : Option FalseRead) (m2 : Machine R) → m1.store.lie ≡ o → ((lie : FalseRead) → m1.store.lie ≡ Some lie → m2.store.lie ≡ Some lie) → m2.store.lie ≡ None → m1.store.lie ≡ None
   none_on None m2 is stays none = is
   none_on (Some lie) m2 is stays none = absurd (cc (stays lie is, none))
 
@@ -128,8 +128,8 @@ module _ {R : Type 0} (state : R → RevState) (m0 m1 : Machine R) (flown : List
   abbrev given_on : (d : Draws) → Given d (indexes_of m0.engine) → Given d (indexes_of m1.engine)
   given_on d g = given_by d (indexes_of m0.engine) (indexes_of m1.engine) same_indexes g
 
-  reads_on : (d : Draws) (g : Given d (indexes_of m0.engine)) (seats : List Seat) (seen : List Entry) → Reads d (indexes_of m1.engine) (given_on d g) seats seen → Reads d (indexes_of m0.engine) g seats seen
-  reads_on d g seats seen reads = record {
+  reads_on : (d : Draws) (g : Given d (indexes_of m0.engine)) (positions : List Position) (seen : List Entry) → Reads d (indexes_of m1.engine) (given_on d g) positions seen → Reads d (indexes_of m0.engine) g positions seen
+  reads_on d g positions seen reads = record {
     numbers = reads.numbers;
     are = reads.are;
     apart = reads.apart;
@@ -147,11 +147,11 @@ module _ {R : Type 0} (state : R → RevState) (m0 m1 : Machine R) (flown : List
       let u1 : length (up ++ rest.seen) ≡ length here + length rest.seen = length-append up rest.seen ∙ ap (λ (n : ℕ). n + length rest.seen) long_up in
       let all = rest.seen ++ rest.last in
       let joined : up ++ all ≡ (up ++ rest.seen) ++ rest.last = sym (append_assoc up rest.seen rest.last) in
-      let there = seats_on state m0 m1 flown given step rest.entries in
+      let there = positions_on state m0 m1 flown given step rest.entries in
       let spells_up : (xs : List Spelt) → SpellFirst (texts ++ more) xs → SpellFirst ((flown ++ texts) ++ more) (spelt_up ++ xs) = λ xs ok.
       subst (λ (l : List (List ℕ)). SpellFirst l (spelt_up ++ xs)) (sym (append_assoc flown texts more))
       (subst (λ (l : List Stmt). SpellFirst (flown ++ (texts ++ more)) (map Ok l ++ xs)) (sym (are_stmts state m0 m1 flown given step)) (spell_flown flown (texts ++ more) step.stmts xs step.spelt ok)) in
-      let stmts_long : length (stmts_in here) ≡ length here = length-map here (λ (f : Flown). f.stmt) in
+      let stmts_long : length (stmts_in here) ≡ length here = length-map here (λ (f : StmtInFlight). f.stmt) in
       record {
         spelt = spelt_up ++ rest.spelt;
         spells = spells_up rest.spelt rest.spells;
@@ -168,7 +168,7 @@ module _ {R : Type 0} (state : R → RevState) (m0 m1 : Machine R) (flown : List
             let behind = statements_more (stmts_in here) (length texts) (length (flown ++ texts)) rest.spelt (omega (arith, t1, stmts_long)) in
             let same = rest.each_seen in omega (arith, behind, same, u1, stmts_long);
         lawful = λ most old fails d drawn g.
-            subst (λ (l : List Entry). AreSeen (StopsWithin ending (RisesBy most old m2.store.faults) (Full state m2)) (seats_at m0 (at_turn ∷ rest.entries)) m0.gathered.batch (spelt_up ++ rest.spelt) (given ++ answers) l) joined
+            subst (λ (l : List Entry). AreSeen (StopsWithin ending (RisesBy most old m2.store.faults) (Full state m2)) (positions_at m0 (at_turn ∷ rest.entries)) m0.gathered.batch (spelt_up ++ rest.spelt) (given ++ answers) l) joined
             (flown_seen state m0 m1 flown given step (StopsWithin ending (RisesBy most old m2.store.faults) (Full state m2)) m0.gathered.batch rest.entries rest.spelt answers all
             (rest.lawful most old (λ beside. fails (
             let first = cuts_up in
@@ -176,14 +176,14 @@ module _ {R : Type 0} (state : R → RevState) (m0 m1 : Machine R) (flown : List
             let second : RisesBy (cut_off rest.seen + 1) m1.store.faults m2.store.faults = beside in
             omega (arith, first, sum, second))) d (step.flew.ran.ran.drawn d drawn) (given_on d g)));
         aloft =
-            let seats_behind = drop_more (seats_in here) (seats_at m1 rest.entries) (length rest.seen) (length (up ++ rest.seen)) (omega (arith, u1, length-map here (λ (f : Flown). f.seat))) in
+            let positions_behind = drop_more (positions_in here) (positions_at m1 rest.entries) (length rest.seen) (length (up ++ rest.seen)) (omega (arith, u1, length-map here (λ (f : StmtInFlight). f.position))) in
             let spelt_behind = drop_more spelt_up rest.spelt (length texts) (length (flown ++ texts)) (omega (arith, t1, long_spelt)) in
-            subst (λ (vs : List Seat). LeavesAloft ending m2.store.asked (drop (length (up ++ rest.seen)) vs) (statements (drop (length (flown ++ texts)) (spelt_up ++ rest.spelt))) rest.last) there
-            (subst (λ (xs : List Spelt). LeavesAloft ending m2.store.asked (drop (length (up ++ rest.seen)) (seats_in here ++ seats_at m1 rest.entries)) (statements xs) rest.last) (sym spelt_behind)
-            (subst (λ (vs : List Seat). LeavesAloft ending m2.store.asked vs (statements (drop (length texts) rest.spelt)) rest.last) (sym seats_behind) rest.aloft));
+            subst (λ (vs : List Position). LeavesInFlight ending m2.store.asked (drop (length (up ++ rest.seen)) vs) (statements (drop (length (flown ++ texts)) (spelt_up ++ rest.spelt))) rest.last) there
+            (subst (λ (xs : List Spelt). LeavesInFlight ending m2.store.asked (drop (length (up ++ rest.seen)) (positions_in here ++ positions_at m1 rest.entries)) (statements xs) rest.last) (sym spelt_behind)
+            (subst (λ (vs : List Position). LeavesInFlight ending m2.store.asked vs (statements (drop (length texts) rest.spelt)) rest.last) (sym positions_behind) rest.aloft));
         on =
-            let seats_behind = drop_more (seats_in here) (seats_at m1 rest.entries) (length rest.seen) (length (up ++ rest.seen)) (omega (arith, u1, length-map here (λ (f : Flown). f.seat))) in
-            subst (λ (vs : List Seat). GoesOn (drop (length (up ++ rest.seen)) vs) ⊎ Lost) there (subst (λ (vs : List Seat). GoesOn vs ⊎ Lost) (sym seats_behind) rest.on);
+            let positions_behind = drop_more (positions_in here) (positions_at m1 rest.entries) (length rest.seen) (length (up ++ rest.seen)) (omega (arith, u1, length-map here (λ (f : StmtInFlight). f.position))) in
+            subst (λ (vs : List Position). GoesOn (drop (length (up ++ rest.seen)) vs) ⊎ Lost) there (subst (λ (vs : List Position). GoesOn vs ⊎ Lost) (sym positions_behind) rest.on);
         passed =
             let same : length (up ++ rest.seen) ≡ length up + length rest.seen = length-append up rest.seen in
             trace_on state m0 m1 flown given step m.store.asked (whole_of (length rest.seen) rest.entries) rest.passed
@@ -207,9 +207,9 @@ module _ {R : Type 0} (state : R → RevState) (m0 m1 : Machine R) (flown : List
             let first = cuts_up in
             let sum = cut_more up rest.seen in
             let second = rest.cuts in
-            let seats_behind = drop_more (seats_in here) (seats_at m1 rest.entries) (length rest.seen) (length (up ++ rest.seen)) (omega (arith, u1, length-map here (λ (f : Flown). f.seat))) in
-            subst (λ (vs : List Seat). RisesBy (cut_off (up ++ rest.seen) + cut_aloft (drop (length (up ++ rest.seen)) vs) rest.last) m0.store.faults m2.store.faults) there
-            (subst (λ (vs : List Seat). RisesBy (cut_off (up ++ rest.seen) + cut_aloft vs rest.last) m0.store.faults m2.store.faults) (sym seats_behind) (omega (arith, first, sum, second)));
+            let positions_behind = drop_more (positions_in here) (positions_at m1 rest.entries) (length rest.seen) (length (up ++ rest.seen)) (omega (arith, u1, length-map here (λ (f : StmtInFlight). f.position))) in
+            subst (λ (vs : List Position). RisesBy (cut_off (up ++ rest.seen) + cut_in_flight (drop (length (up ++ rest.seen)) vs) rest.last) m0.store.faults m2.store.faults) there
+            (subst (λ (vs : List Position). RisesBy (cut_off (up ++ rest.seen) + cut_in_flight vs rest.last) m0.store.faults m2.store.faults) (sym positions_behind) (omega (arith, first, sum, second)));
         failed = λ alone.
             let first = cuts_up in
             let same = failed_same here given (stood state m0 m1 flown given step) (answered state m0 m1 flown given step) in
@@ -217,26 +217,26 @@ module _ {R : Type 0} (state : R → RevState) (m0 m1 : Machine R) (flown : List
             let second = rest.failed (ap (λ (q : Public). q.batch) (public_on state m0 m1 flown given step) ∙ alone) in
             omega (arith, first, same, sum, second);
         drawn = λ d drawn g.
-            subst (λ (l : List Entry). Reads d (indexes_of m0.engine) g (seats_at m0 (at_turn ∷ rest.entries)) l) joined
-            (flown_drawn state m0 m1 flown given step d g rest.entries all (reads_on d g (seats_at m1 rest.entries) all (rest.drawn d (step.flew.ran.ran.drawn d drawn) (given_on d g))));
+            subst (λ (l : List Entry). Reads d (indexes_of m0.engine) g (positions_at m0 (at_turn ∷ rest.entries)) l) joined
+            (flown_drawn state m0 m1 flown given step d g rest.entries all (reads_on d g (positions_at m1 rest.entries) all (rest.drawn d (step.flew.ran.ran.drawn d drawn) (given_on d g))));
         lie = λ lie it. rest.lie lie (step.flew.ran.ran.later.lie lie it);
         meant = λ d drawn tells calm unfit tables held.
             let unfit1 = unfit_on m2 rest.keys rest.start rest.lie unfit in
             let on = held_on d drawn tables held tells calm unfit1 in
             let from = rest.meant d (step.flew.ran.ran.drawn d drawn) (subst (λ (b : Bool). IsTrue b) (sym step.flew.ran.ran.later.tells) tells) (step.flew.ran.cause calm) unfit tables on in
             let s = session_of m0 d tables in
-            let Inner = Behind state ending m1 m2 d tables (seats_at m1 rest.entries) rest.spelt answers in
-            let Outer : List Seat → Broken → Tables → Type 0 = λ vs. Behind state ending m0 m2 d tables vs (spelt_up ++ rest.spelt) (given ++ answers) in
-            let up_told = told_up d drawn tables held tells calm unfit1 ending (seats_at m1 rest.entries) rest.spelt answers all part Inner from in
-            subst (λ (l : List Entry). Told ending (seats_at m0 (at_turn ∷ rest.entries)) s (spelt_up ++ rest.spelt) (given ++ answers) l part (Outer (seats_at m0 (at_turn ∷ rest.entries)))) joined
-            (subst (λ (vs : List Seat). Told ending vs s (spelt_up ++ rest.spelt) (given ++ answers) (up ++ all) part (Outer vs)) there
-            (told_as ending (seats_in here ++ seats_at m1 rest.entries) s (spelt_up ++ rest.spelt) (given ++ answers) (up ++ all) part (λ broken ts. AreStill s here given broken × Inner (drop (length here) broken) ts)
-            (Outer (seats_in here ++ seats_at m1 rest.entries))
+            let Inner = AfterTexts state ending m1 m2 d tables (positions_at m1 rest.entries) rest.spelt answers in
+            let Outer : List Position → Broken → Tables → Type 0 = λ vs. AfterTexts state ending m0 m2 d tables vs (spelt_up ++ rest.spelt) (given ++ answers) in
+            let up_told = told_up d drawn tables held tells calm unfit1 ending (positions_at m1 rest.entries) rest.spelt answers all part Inner from in
+            subst (λ (l : List Entry). Told ending (positions_at m0 (at_turn ∷ rest.entries)) s (spelt_up ++ rest.spelt) (given ++ answers) l part (Outer (positions_at m0 (at_turn ∷ rest.entries)))) joined
+            (subst (λ (vs : List Position). Told ending vs s (spelt_up ++ rest.spelt) (given ++ answers) (up ++ all) part (Outer vs)) there
+            (told_as ending (positions_in here ++ positions_at m1 rest.entries) s (spelt_up ++ rest.spelt) (given ++ answers) (up ++ all) part (λ broken ts. AreStill s here given broken × Inner (drop (length here) broken) ts)
+            (Outer (positions_in here ++ positions_at m1 rest.entries))
             (λ broken ts b. record {
               whole = b.1.whole;
-              path = together_so (seats_in here) (stmts_in here) given (record { landed = landed; drawn = step.flew.ran.ran.drawn d drawn; holds = on }) (omega (arith, long_given, stmts_long))
-                  (leaves_flown s here (seats_at m1 rest.entries) rest.spelt given answers broken long_given b.0)
-                  (subst (λ (n : ℕ). Path state ending m1 m2 d tables (seats_at m1 rest.entries) rest.spelt answers (drop n broken)) (sym stmts_long) b.1.path);
+              path = together_so (positions_in here) (stmts_in here) given (record { landed = landed; drawn = step.flew.ran.ran.drawn d drawn; holds = on }) (omega (arith, long_given, stmts_long))
+                  (leaves_flown s here (positions_at m1 rest.entries) rest.spelt given answers broken long_given b.0)
+                  (subst (λ (n : ℕ). Path state ending m1 m2 d tables (positions_at m1 rest.entries) rest.spelt answers (drop n broken)) (sym stmts_long) b.1.path);
             }) up_told));
         untampered = λ d drawn tells tables held honest.
             let none1 : m1.store.lie ≡ None = none_on m1.store.lie m2 refl rest.lie honest in

@@ -3,8 +3,8 @@ use Rattle.ob_shell.proofs.Words.{ap, append-nil, arith, Bool, closing_line, Eng
 use Rattle.std.proofs.Math.Seq.{take_all}
 use Rattle.ob_exec.specs.RanFlight.{RanFlight}
 use Rattle.ob_print.proofs.SentLemmas.{Sends-cut, flushed, flushed_cut, flushed_whole}
-use Rattle.ob_shell.proofs.AloftLemmas.{SentUntil, counted_ended, few_ended, few_until, flew_whole, printed_ended, ran_aloft, sent_until}
-use Rattle.ob_shell.specs.Aloft.{CutsFlight, FlewUntil, answers_of}
+use Rattle.ob_shell.proofs.InFlightLemmas.{SentUntil, counted_ended, few_ended, few_until, flew_whole, printed_ended, ran_in_flight, sent_until}
+use Rattle.ob_shell.specs.FlightAnswers.{CutsFlight, FlewUntil, answers_of}
 use Rattle.ob_shell.specs.Flying.{CountsFlight, PrintsWhole, RestsFlight}
 use Rattle.ob_shell.specs.Tallies.{tally_after, tally_seen}
 use Rattle.ob_tables.specs.declared.stop.RunStop.TheVariants as Runs
@@ -71,7 +71,7 @@ module _ {R E : Type 0} {state : R → RevState} {grew cut : E → E → List Ev
       flew_until : (bytes : List ℕ) → PrintsUntil (session_stop stop) bytes text → FlewUntil state words left stmts seens stop bytes old s new t
       flew_until bytes prints = record {
         ended = ran.ended;
-        ran = ran_aloft state grew cut closed parted faults words left stmts seens old s new t out_old out_new (Err stop) ran;
+        ran = ran_in_flight state grew cut closed parted faults words left stmts seens old s new t out_old out_new (Err stop) ran;
         stmt = ran.stopped.stmt;
         seen = ran.stopped.seen;
         next = ran.stopped.next;
@@ -113,7 +113,7 @@ module _ {R E : Type 0} {state : R → RevState} {grew cut : E → E → List Ev
             }
       ]
 
--- ---- behind the answers
+-- ---- after the answers
 -- they were counted
 pub counts_whole : {R : Type 0} {state : R → RevState} {words left : ℕ → ℕ} {stmts : List Stmt} {seens : List Seen} {outcomes : List Outcome} {w0 w1 : Option (List ℕ)} {old new : Engine R} {s t : StoreState} (tally counted : Tally) (outs : List Outcome)
     → PrintsWhole state words left stmts seens outcomes w0 w1 old s new t → counted ≡ tally_seen tally outs seens → outs ≡ outcomes → CountsFlight state words left stmts tally counted w0 w1 old s new t

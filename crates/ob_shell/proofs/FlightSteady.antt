@@ -1,5 +1,5 @@
 -- What flew asks in a way that doesn't hang on the number of its region.
-use Rattle.ob_shell.proofs.Words.{AfterCount, Cut, End, IsFlown, Joined, List, Machine, may_fly, MayFly, None, Option, Plan, Public, public_of, RanAloft, refl, Result, RevState, RunStop, Seen, served_as, skeleton, slice_get, Some, StandsAs, Static, Stmt, subst, suc, true, Whole, zero, ℕ, [], ◌∷◌, ◌≡◌}
+use Rattle.ob_shell.proofs.Words.{AfterCount, Cut, End, IsFlown, Batched, List, Machine, may_fly, MayFly, None, Option, Plan, Public, public_of, RanInFlight, refl, Result, RevState, RunStop, Seen, served_as, skeleton, slice_get, Some, StandsAs, Static, Stmt, subst, suc, true, Whole, zero, ℕ, [], ◌∷◌, ◌≡◌}
 use Rattle.ob_base.specs.declared.config.Plan.TheVariants.{Small, Large, Continuous, Hash}
 use Rattle.ob_base.specs.declared.config.Planner.TheVariants.{Forced}
 use Rattle.ob_inflight.specs.Closing.{Closed}
@@ -32,7 +32,7 @@ stands_one : (p : Public) (m n : ℕ) (stmt : Stmt) (seen : Seen) (end : End) �
 stands_one p m n stmt seen Static small stands = lawful_one p m stmt seen small stands
 stands_one p m n stmt seen Whole small stands = lawful_one p m stmt (record seen { end = Cut n }) small stands
 stands_one p m n stmt seen AfterCount small stands = absurd stands
-stands_one p m n stmt seen Joined small stands = absurd stands
+stands_one p m n stmt seen Batched small stands = absurd stands
 stands_one p m n stmt seen (Cut cut) small stands = lawful_one p m stmt seen small stands.2
 
 flown_one : (p : Public) (m n : ℕ) (stmt : Stmt) (seen : Seen) (o : Option Closed) → p.planner ≡ Forced Small → IsFlown p m n stmt seen o → seen.then ≡ None
@@ -47,7 +47,7 @@ served_each P (stmt ∷ stmts) (seen ∷ seens) each zero x is = let same : reco
 served_each P (stmt ∷ stmts) (seen ∷ seens) each (suc i) x is = served_each P stmts seens (λ k s y get shown. each (suc k) s y get shown) i x is
 
 pub steady_flown : {R : Type 0} (state : R → RevState) (m0 m1 : Machine R) (stmts : List Stmt) (seens : List Seen) (ended : List Closed) (result : Result (Unit {0}) RunStop) → MayFly state m0 m1 stmts
-    → RanAloft state m0.flights.words m1.flights.words stmts seens ended result m0.engine m0.store m1.engine m1.store → AreSteady (public_of m0.engine) (served_as stmts seens)
+    → RanInFlight state m0.flights.words m1.flights.words stmts seens ended result m0.engine m0.store m1.engine m1.store → AreSteady (public_of m0.engine) (served_as stmts seens)
 steady_flown state m0 m1 stmts seens ended result may ran = all_steady (public_of m0.engine) (served_as stmts seens) (record {
   each = served_each FliesAs stmts seens (λ i stmt seen get shown. record {
     skeleton = flown_selects (public_of m0.engine) (skeleton stmt) (all_get (λ (x : Stmt). may_fly (public_of m0.engine) (skeleton x) ≡ true) stmts may.fly i stmt get);

@@ -1,27 +1,27 @@
--- Where a sink failed within the answers of a flight, or behind them.
-use Rattle.ob_shell.proofs.Words.{Access, All, Answer, ap, append-nil, append_assoc, append_cancel_left, Appends, arith, asked_of, Bool, done_of, drop, Ending, Err, false, FinishedTogether, if◌then◌else◌, inl, inr, is_tampered, length, length-append, length-map, List, Machine, None, Ok, Option, Outputs, printed, PrintsUntil, public_of, Ran, RanAloft, refl, RevState, RunStop, Seat, Seen, served_as, Session, session_stop, slice_get, Some, Stmt, subst, suc, sym, take, take-append-drop, Took, true, turns_of, zero, ℕ, [], ◌++◌, ◌+◌, ◌<◌, ◌∙◌, ◌∷◌, ◌≡◌, ◌≤◌, ◌⊎◌}
+-- Where a sink failed within the answers of a flight, or after them.
+use Rattle.ob_shell.proofs.Words.{Access, All, Answer, ap, append-nil, append_assoc, append_cancel_left, Appends, arith, asked_of, Bool, done_of, drop, Ending, Err, false, FinishedTogether, if◌then◌else◌, inl, inr, is_tampered, length, length-append, length-map, List, Machine, None, Ok, Option, Outputs, printed, PrintsUntil, public_of, Ran, RanInFlight, refl, RevState, RunStop, Position, Seen, served_as, Session, session_stop, slice_get, Some, Stmt, subst, suc, sym, take, take-append-drop, Took, true, turns_of, zero, ℕ, [], ◌++◌, ◌+◌, ◌<◌, ◌∙◌, ◌∷◌, ◌≡◌, ◌≤◌, ◌⊎◌}
 use Rattle.ob_base.specs.declared.refusal.Stop.TheVariants as Stops
 use Rattle.ob_headline.proofs.FlightLeft.{ended_left}
 use Rattle.ob_headline.proofs.TakenLemmas.{LosesSo, taken_answers}
-use Rattle.ob_headline.specs.Accesses.{FirstWants, LeavesAloft, LeavesFlight, OneMakes, ends_within}
-use Rattle.ob_headline.specs.Flights.{EndedBy, Stand, asked_until, has_ended}
+use Rattle.ob_headline.specs.Accesses.{FirstWants, LeavesInFlight, LeavesFlight, OneMakes, ends_within}
+use Rattle.ob_headline.specs.Flights.{EndedBy, LeftAt, asked_until, has_ended}
 use Rattle.ob_inflight.specs.Closing.{Closed}
 use Rattle.ob_script.proofs.FlightLemmas.{logs_grow}
 use Rattle.ob_script.specs.Flights.{Flight, boarding, merge, turns}
 use Rattle.ob_script.specs.Trace.{Served as Entry}
 use Rattle.ob_shell.proofs.FlightEnd.{all_fs, aloft, in_all, left_walked, spelt_left, turn_of}
-use Rattle.ob_shell.proofs.FlightFacts.{ByThen, first_answered, past_none, places, seats_are}
+use Rattle.ob_shell.proofs.FlightFacts.{ByThen, first_answered, past_none, places, positions_are}
 use Rattle.ob_shell.proofs.FlightLast.{LastWalk}
 use Rattle.ob_shell.proofs.FlightMeant.{BeginsSo, Means, meant_so}
 use Rattle.ob_shell.proofs.FlightSeen.{FirstAnswered, IsAnswerOf, IsIn, Stood}
-use Rattle.ob_shell.proofs.FlownLists.{Flown, seats_in}
+use Rattle.ob_shell.proofs.FlownLists.{StmtInFlight, positions_in}
 use Rattle.ob_shell.proofs.StopLemmas.{stop_untampered}
 use Rattle.ob_shell.proofs.WalkLemmas.{EarlyAt}
-use Rattle.ob_shell.specs.Aloft.{answers_of}
+use Rattle.ob_shell.specs.FlightAnswers.{answers_of}
 use Rattle.ob_tables.specs.Telling.{is_refused}
 use Rattle.ob_tables.specs.declared.stop.RunStop.TheVariants as Runs
 
--- ---- what a sink took behind answers that it took whole
+-- ---- what a sink took after answers that it took whole
 printed_both : (xs ys : List Answer) → printed (xs ++ ys) ≡ printed xs ++ printed ys
 unfolding printed
 printed_both [] ys = refl
@@ -139,25 +139,25 @@ loses_one w0 w1 Lost first answers some kept [] parts took loses =
 
 -- ---- what is left of them
 -- neither within one of them nor for want of memory
-leaves_at : (ending : Ending) (asked : List Access) (Wants : Type 0) (o : Option Stand) → ends_within ending ≡ false → (ending ≡ Ran (Err Stops.NoMemory) → ⊥) → LeavesFlight o ending asked Wants
+leaves_at : (ending : Ending) (asked : List Access) (Wants : Type 0) (o : Option LeftAt) → ends_within ending ≡ false → (ending ≡ Ran (Err Stops.NoMemory) → ⊥) → LeavesFlight o ending asked Wants
 leaves_at ending asked Wants None off not = tt
 leaves_at ending asked Wants (Some stand) off not = (off, λ is. absurd (not is))
 
-pub leaves_otherwise : (ending : Ending) (asked : List Access) (seats : List Seat) (stmts : List Stmt) (seen : List Entry) → ends_within ending ≡ false → (ending ≡ Ran (Err Stops.NoMemory) → ⊥) → LeavesAloft ending asked seats stmts seen
+pub leaves_otherwise : (ending : Ending) (asked : List Access) (positions : List Position) (stmts : List Stmt) (seen : List Entry) → ends_within ending ≡ false → (ending ≡ Ran (Err Stops.NoMemory) → ⊥) → LeavesInFlight ending asked positions stmts seen
 leaves_otherwise ending asked [] stmts seen off not = tt
-leaves_otherwise ending asked (v ∷ seats) stmts seen off not = leaves_at ending asked (OneMakes (v ∷ seats) stmts seen ⊎ FirstWants (v ∷ seats) stmts seen) v.left off not
+leaves_otherwise ending asked (v ∷ positions) stmts seen off not = leaves_at ending asked (OneMakes (v ∷ positions) stmts seen ⊎ FirstWants (v ∷ positions) stmts seen) v.left off not
 
 pub prints_whole : (run : RunStop) (xs : List ℕ) → PrintsUntil (session_stop run) xs xs
 prints_whole Runs.NoMemory xs = record { lost = []; whole = sym (append-nil xs) }
 prints_whole other xs = refl
 
--- the one behind those that were kept
-pub nth_answered : (xs : List Flown) (kept : List Answer) (one : Answer) (lost : List Answer) (f : Flown) → FirstAnswered xs (kept ++ (one ∷ lost)) → slice_get xs (length kept) ≡ Some f → IsAnswerOf f one
+-- the one after those that were kept
+pub nth_answered : (xs : List StmtInFlight) (kept : List Answer) (one : Answer) (lost : List Answer) (f : StmtInFlight) → FirstAnswered xs (kept ++ (one ∷ lost)) → slice_get xs (length kept) ≡ Some f → IsAnswerOf f one
 nth_answered [] kept one lost f first is = absurd (cc is)
-nth_answered (x ∷ xs) [] one lost f first is = let same : x ≡ f = cc is in subst (λ (y : Flown). IsAnswerOf y one) same first.0
+nth_answered (x ∷ xs) [] one lost f first is = let same : x ≡ f = cc is in subst (λ (y : StmtInFlight). IsAnswerOf y one) same first.0
 nth_answered (x ∷ xs) (k ∷ kept) one lost f first is = nth_answered xs kept one lost f first.1 is
 
-pub begins_answered : (run : RunStop) (s : Session) (f : Flown) (one : Answer) → Stood f → IsIn f → IsAnswerOf f one → Means s f → BeginsSo (Ran (Err (session_stop run))) s f one.bytes
+pub begins_answered : (run : RunStop) (s : Session) (f : StmtInFlight) (one : Answer) → Stood f → IsIn f → IsAnswerOf f one → Means s f → BeginsSo (Ran (Err (session_stop run))) s f one.bytes
 begins_answered run s f one stood at answer means =
     let own = meant_so s f one stood answer means in
     record { stand = at.stand; left = at.left; emits = inr (record { how = own.how; cuts = own.cuts; seen = own.seen; answer = one; answers = own.answer; printed = prints_whole run one.bytes }) }
@@ -181,10 +181,10 @@ until_most words i (suc n) s = by (until_most words i n s) (has_ended i (turns w
 
 -- ---- the whole of it
 module _ {R : Type 0} (state : R → RevState) (m1 m2 : Machine R) (more : List (List ℕ)) (part : List ℕ) (w0 w1 : Option (List ℕ)) (Lost : Type 0) (first : List Answer) (run : RunStop) (done : FinishedTogether state m1 m2 more run part) where
-  abbrev ran : RanAloft {T = Unit {0}} state m1.flights.words m2.flights.words done.step.stmts done.step.seens done.step.flew.ended (Ok tt) m1.engine m1.store m2.engine m2.store
+  abbrev ran : RanInFlight {T = Unit {0}} state m1.flights.words m2.flights.words done.step.stmts done.step.seens done.step.flew.ended (Ok tt) m1.engine m1.store m2.engine m2.store
   ran = done.step.flew.ran
 
-  abbrev pub fs_done : List Flown
+  abbrev pub fs_done : List StmtInFlight
   fs_done = all_fs state m1 m2 done.step.stmts done.step.seens done.step.flew.ended (Ok tt) done.step.may ran
 
   abbrev total : ℕ
@@ -211,8 +211,8 @@ module _ {R : Type 0} (state : R → RevState) (m1 m2 : Machine R) (more : List 
   by_then k less (Some one) is = ended_then k
   by_then k less None is = absurd (let past = past_none done.step.flew.ended k is in let all = ran.all in omega (arith, past, less, all))
 
-  had : (j : ℕ) → All (λ (v : Seat). EndedBy v.left v) (take j (seats_in fs_done))
-  had j = subst (λ (vs : List Seat). All (λ (v : Seat). EndedBy v.left v) (take j vs)) (sym (seats_are state m1 m2 done.step.stmts done.step.seens done.step.flew.ended (Ok tt) done.step.may ran (Some total)))
+  had : (j : ℕ) → All (λ (v : Position). EndedBy v.left v) (take j (positions_in fs_done))
+  had j = subst (λ (vs : List Position). All (λ (v : Position). EndedBy v.left v) (take j vs)) (sym (positions_are state m1 m2 done.step.stmts done.step.seens done.step.flew.ended (Ok tt) done.step.may ran (Some total)))
       (ended_left m1.flights.words (public_of m1.engine) (asked_of m1) flown total 0 (length flown) j (λ k less. ended_then (0 + k)))
 
   answered : (kept lost : List Answer) → done.answers ≡ kept ++ lost → FirstAnswered fs_done kept

@@ -13,7 +13,7 @@ use Rattle.ob_shell.proofs.GatherLemmas.{no_insert}
 use Rattle.ob_shell.proofs.StepLemmas.{PartlyAt-rests, Steps-none, printed-nil, steps_together}
 use Rattle.ob_shell.proofs.PlaceLemmas.{place_other, place_past, same_fly}
 use Rattle.ob_shell.proofs.TookLemmas.{took_whole, traced_to_none}
-use Rattle.ob_shell.specs.Aloft.{CutsFlight}
+use Rattle.ob_shell.specs.FlightAnswers.{CutsFlight}
 use Rattle.ob_shell.specs.Flying.{RestsFlight, RunsFlight}
 use Rattle.ob_shell.specs.Running.{IsQuiet, halted_of}
 use Rattle.ob_shell.specs.Serving.{ServesBatch, TakesTexts}
@@ -55,7 +55,7 @@ pub flown_few : (settings : Option FlightSettings) (p : Public) (n : ℕ) → n 
 flown_few None p n few = omega (arith, few)
 flown_few (Some f) p n few = omega (arith, few)
 
--- ---- behind them
+-- ---- after them
 -- what tables are saved with
 saves_on : {R : Type 0} {Saves : Type 0} (e0 e1 : Engine R) → engine_keys e1 ≡ engine_keys e0 → opened_from e1 ≡ opened_from e0 → (public_of e1).save ≡ (public_of e0).save → (public_of e1).closing ≡ (public_of e0).closing → (public_of e0).next_region ≤ (public_of e1).next_region
     → MaySave Saves e0 → MaySave Saves e1

@@ -1,4 +1,4 @@
--- What had ended within a flight's first accesses, over a store that others change only behind these, is answered and seen as it is meant.
+-- What had ended within a flight's first accesses, over a store that others change only after these, is answered and seen as it is meant.
 use Rattle.ob_shell.proofs.Words.{answer_labels, arith, Bool, by_fault, count_of, Disturbance, Draws, Emitted, Engine, false, is_fault, IsBefore, IsSteady, IsTrue, length, List, Option, outcome_of, public_of, refl, Represents, RevState, Seen, skeleton, Stmt, StoreState, subst, sym, Tables, true, ℕ, ◌+◌, ◌≡◌, ◌≤◌}
 use Rattle.ob_exec.specs.InFlight.{EndsMeant}
 use Rattle.ob_exec.specs.RanFlight.{MeantThen, in_flight}

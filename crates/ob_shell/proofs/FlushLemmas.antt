@@ -43,7 +43,7 @@ module _ {R : Type 0} (state : R → RevState) (e0 e1 : Engine R) (s0 s1 : Store
     counted = counted;
   }
 
-  -- a sink failed in the lines, or in the trace behind the first
+  -- a sink failed in the lines, or in the trace after the first
   pub lost_batch : {w0 w1 t0 t1 : Option (List ℕ)} {Lost : Type 0} (outcome : Outcome) (outcomes : List Outcome) → RanBatch state first rest (Ok outcome) outcomes e0 s0 e1 s1 k0 k1 → (cut : LinesCut (outcome ∷ outcomes) w0 w1 Lost)
       → {text : List ℕ} {Fault : Type 0} → Outputs t0 t1 Fault text → (cut.done ≡ []) ⊎ TracedTo on s0.asked s1.asked t0 t1 → BreaksIn state on w0 w1 t0 t1 Lost (held ++ []) Runs.SinkFault start m1
   lost_batch {w0 = w0} {w1 = w1} {t0 = t0} {t1 = t1} outcome outcomes ran cut {text = text} traces all =
@@ -139,7 +139,7 @@ pub batch_unsunk : {R : Type 0} {state : R → RevState} {first : Stmt} {rest : 
 batch_unsunk {first = first} {e0 = e0} {s0 = s0} stop batch ran is =
     unemitted first (begins (public_of e0) (count_of e0 s0) first batch.begins).inserts (ran.carried.emits (ap Err is))
 
--- its stop, and the trace behind it
+-- its stop, and the trace after it
 pub traced_only : (T : Type 0) (stop : RunStop) → (stop ≡ Runs.SinkFault → ⊥) → (out t0 t1 : ℕ) → t0 ≤ t1 → StopCause {T = T} (Unit {0}) (faults_of 0 out t0) (faults_of 0 out t1) (Err (session_stop stop))
 traced_only T (Runs.Tampered q x) not out t0 t1 later = ((λ alone. refl, inl refl), omega arith, later)
 traced_only T Runs.SinkFault not out t0 t1 later = absurd (not refl)

@@ -127,7 +127,7 @@ pub free_more : (settings : Option FlightSettings) (p : Public) (batch : List St
 free_more settings p [] stmt g goes free = absurd (cc goes)
 free_more settings p (first ∷ rest) stmt g goes free = free
 
--- or doesn't, and comes free behind them, once they were served
+-- or doesn't, and comes free after them, once they were served
 pub not_flying : (p : Public) (outline : Skeleton) → IsSome (inserts_into outline) → may_fly p outline ≡ false
 not_flying p (Rows source columns) some = absurd (cc some)
 not_flying p (Groups table columns key) some = absurd (cc some)
@@ -212,7 +212,7 @@ so_full {state = state} batch stmt text m0 {m1 = m1} settings full g held none s
   counted = so.counted;
 }
 
--- ---- what a list is behind a push, by whether that failed
+-- ---- what a list is after a push, by whether that failed
 pub pushed : {T E X : Type 0} (r : Result T E) (failed : Bool) (ys : X) {xs zs : X} → failed ≡ is_err r → failed ≡ false → zs ≡ (if is_ok r then xs else ys) → zs ≡ xs
 pushed (Ok x) failed ys is not new = new
 pushed (Err e) failed ys is not new = absurd (cc (is, not))

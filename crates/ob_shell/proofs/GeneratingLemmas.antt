@@ -18,7 +18,7 @@ use Rattle.ob_words.specs.declared.words.WordsErr.TheVariants as Words
 pub cut_rose : {w0 w1 : Option (List ℕ)} {F G : Type 0} (bytes : List ℕ) → (F → G) → Outputs w0 w1 F bytes → Outputs w0 w1 G bytes
 cut_rose bytes rose c = record { grown = c.grown; appends = c.appends; prefix = c.prefix; all = elim c.all [ inl whole ↦ inl whole | inr fault ↦ inr (rose fault) ] }
 
--- nothing, of a line, behind another fault
+-- nothing, of a line, after another fault
 pub nothing_written : {w0 w1 : Option (List ℕ)} {G : Type 0} (bytes : List ℕ) → w1 ≡ w0 → G → Outputs w0 w1 G bytes
 nothing_written {w0 = w0} {G = G} bytes same g =
     subst (λ (w : Option (List ℕ)). Outputs w0 w G bytes) (sym same) (record { grown = []; appends = Appends-nil w0; prefix = record { lost = bytes; whole = refl }; all = inr g })

@@ -20,7 +20,7 @@ met_entries most words g s spelt = meant_entries most words (course_of s g) spel
 abbrev pub met_trace : (most : ℕ) → (words : ℕ → ℕ) → Option Gathering → Session → List Spelt → List Access
 met_trace most words g s spelt = trace_in words 0 s.public (met_entries most words g s spelt)
 
--- what is gathered behind a statement that was served so
+-- what is gathered after a statement that was served so
 abbrev pub gathered_by : How → Option Gathering → Session → Stmt → Option Gathering
 gathered_by how g s stmt = gathering_after s.public s.asked g stmt (seen_or_cut how s stmt).end
 

@@ -1,4 +1,4 @@
--- A run whose tables are kept, all but its last line.
+-- A run whose tables are kept, all except its last line.
 use Rattle.ob_shell.proofs.Words.{ap, arith, BadKey, Base, Bool, Config, empty_tally, Engine, Err, false, Faults, faults_of, Fetch, first_public, FirstLine, Flights, flights_at, FlightSettings, flying, Halt, has_refused, high_of, IsFedBy, IsFresh, KeeperState, KeptEnded, KeyRead, keys_in, keys_of, limit_of, List, machine_of, Ok, Option, OutFailed, outside_of, Plain, Public, public_of, Ran, refl, Result, RevState, Rises, rows_of, ServesAlone, SessionRan, Silenced, Some, Stop, StopCause, StoreState, subst, sym, Tally, Traced, true, ℕ, [], ◌++◌, ◌∙◌, ◌≡◌, ◌≤◌}
 use Rattle.ob_base.specs.declared.refusal.Stop.TheVariants.{SourceFault}
 use Rattle.ob_headline.specs.KeyLine.{after_line, first_line, secret_of}

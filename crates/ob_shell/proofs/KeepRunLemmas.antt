@@ -1,4 +1,4 @@
--- A run whose tables are kept, behind its first line.
+-- A run whose tables are kept, after its first line.
 use Rattle.ob_shell.proofs.Words.{Bool, Config, empty_tally, Engine, Faults, Fetch, flights_at, FlightSettings, flying, high_of, inl, inr, IsFedBy, KeeperState, KeptEnded, KeyRead, limit_of, List, Ok, Option, outside_of, refl, RevState, rows_of, Some, StoreState, told_nothing, ℕ, [], ◌≡◌, ◌≤◌}
 use Rattle.ob_shell.proofs.KeepLemmas.{ran_stopped, ran_whole, serves_all}
 use Rattle.ob_shell.proofs.SessionLemmas.{ran_after, ran_last}

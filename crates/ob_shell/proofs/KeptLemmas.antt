@@ -46,7 +46,7 @@ module _ {Takes : Type 0} (settings : Option Config) (flight : Option FlightSett
   abbrev new : Outside
   new = with_line mid w2 out2
 
-  -- the last line behind what the sink of the answers held at the end, none of which failed until then
+  -- the last line after what the sink of the answers held at the end, none of which failed until then
   pub line_behind : (quiet : Bool) → ended.quiet ≡ quiet → (before : Option (List ℕ)) → mid.written ≡ before → (from : Faults) → mid.faults.out ≡ from.out → (quiet ≡ true → Rises from.trace mid.faults.trace)
       → Outputs before w2 (SinksRose from new.faults) (kept_line ended.ending)
   line_behind true is before same from out rose = nothing_written (kept_line ended.ending) ((hushed is).written ∙ same) (inr (rose refl))

@@ -26,7 +26,7 @@ module _ {R : Type 0} (state : R → RevState) (config : Config) where
     }
   ]
 
-  -- nothing but the next region is another behind a flight
+  -- nothing except the next region is another after a flight
   flight_sizes : (m0 m1 : Machine R) (texts : List (List ℕ)) (answers : List Answer) → StepTogether state m0 m1 texts answers → HasSizes config m0 → HasSizes config m1
   flight_sizes m0 m1 texts answers step sizes =
       let on = step.flew.ran.ran.goes_on in

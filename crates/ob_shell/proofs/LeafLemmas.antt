@@ -1,5 +1,5 @@
 -- The leaves that statements read are those of draws, of which none is read twice.
-use Rattle.ob_shell.proofs.Words.{All, All-cons, All-nil, All-weaker, ap, AreDraws, arith, asked_of, Does, Draws, false, Given, Index, indexes_of, length, List, Machine, None, Option, option_map, Outcome, public_of, refl, Result, RevState, RunStop, Seat, seen_of, skeleton, slice_get, Some, Stmt, subst, suc, sym, World, zero, ℕ, [], ◌<◌, ◌∙◌, ◌∷◌, ◌≡◌, ◌≢◌}
+use Rattle.ob_shell.proofs.Words.{All, All-cons, All-nil, All-weaker, ap, AreDraws, arith, asked_of, Does, Draws, false, Given, Index, indexes_of, length, List, Machine, None, Option, option_map, Outcome, public_of, refl, Result, RevState, RunStop, Position, seen_of, skeleton, slice_get, Some, Stmt, subst, suc, sym, World, zero, ℕ, [], ◌<◌, ◌∙◌, ◌∷◌, ◌≡◌, ◌≢◌}
 use Rattle.std.specs.Prelude.{IfSome, slice_index_or}
 use Rattle.std.specs.List.{AllPairs}
 use Rattle.std.proofs.lemmas.List.Kept.{AllPairs-cons}
@@ -7,7 +7,7 @@ use Rattle.std.proofs.lemmas.Option.{slice_get-get_or}
 use Rattle.ob_base.specs.Indexes.{leaf_of_draw}
 use Rattle.ob_exec.proofs.LeavesRead.{KeyAt, Onwards, ReadsUnread, Unread, behind, none_given, reads_unread}
 use Rattle.ob_tables.specs.Engines.{AreTables}
-use Rattle.ob_headline.specs.Flights.{seat_alone}
+use Rattle.ob_headline.specs.Flights.{position_alone}
 use Rattle.ob_headline.specs.FullStash.{HasDrawnLeaves}
 use Rattle.ob_headline.specs.Leaves.{AreDrawn, IsDrawn}
 use Rattle.ob_mean.specs.Lawful.{height_at}
@@ -16,37 +16,37 @@ use Rattle.ob_oram.specs.Indexes.{leaves_of}
 use Rattle.ob_script.specs.Trace.{Served}
 
 -- statements read leaves of draws, none twice, of which none was read before
-pub record Reads (d : Draws) (indexes : List Index) (g : Given d indexes) (seats : List Seat) (seen : List Served) : Type 0 where
+pub record Reads (d : Draws) (indexes : List Index) (g : Given d indexes) (positions : List Position) (seen : List Served) : Type 0 where
   pub numbers : List ℕ
-  pub are : AreDrawn d.draw seats seen numbers
+  pub are : AreDrawn d.draw positions seen numbers
   pub apart : AllPairs (λ a b. a ≢ b) numbers
   pub unread : All (Unread d indexes g.number) numbers
 
 none_apart : AllPairs (λ (a b : ℕ). a ≢ b) []
 none_apart i j x before within = absurd (omega (arith, within))
 
-pub reads_none : (d : Draws) (indexes : List Index) (g : Given d indexes) (seats : List Seat) → Reads d indexes g seats []
-reads_none d indexes g seats = record { numbers = []; are = refl; apart = none_apart; unread = All-nil (Unread d indexes g.number) }
+pub reads_none : (d : Draws) (indexes : List Index) (g : Given d indexes) (positions : List Position) → Reads d indexes g positions []
+reads_none d indexes g positions = record { numbers = []; are = refl; apart = none_apart; unread = All-nil (Unread d indexes g.number) }
 
 -- one that reads none
-pub reads_unasked : (d : Draws) (indexes : List Index) (g : Given d indexes) (v : Seat) (seats : List Seat) (x : Served) (seen : List Served) → x.seen.leaf ≡ None → Reads d indexes g seats seen → Reads d indexes g (v ∷ seats) (x ∷ seen)
-reads_unasked d indexes g v seats x seen none rest = record {
+pub reads_unasked : (d : Draws) (indexes : List Index) (g : Given d indexes) (v : Position) (positions : List Position) (x : Served) (seen : List Served) → x.seen.leaf ≡ None → Reads d indexes g positions seen → Reads d indexes g (v ∷ positions) (x ∷ seen)
+reads_unasked d indexes g v positions x seen none rest = record {
   numbers = rest.numbers;
-  are = subst (λ (o : Option ℕ). IsDrawn d.draw (height_at v.public x.skeleton) o rest.numbers (AreDrawn d.draw seats seen)) (sym none) rest.are;
+  are = subst (λ (o : Option ℕ). IsDrawn d.draw (height_at v.public x.skeleton) o rest.numbers (AreDrawn d.draw positions seen)) (sym none) rest.are;
   apart = rest.apart;
   unread = rest.unread;
 }
 
 -- ---- one statement
-module _ (d : Draws) (taken : ℕ) (old new : List Index) (g : Given d old) (v : Seat) (seats : List Seat) (x : Served) where
+module _ (d : Draws) (taken : ℕ) (old new : List Index) (g : Given d old) (v : Position) (positions : List Position) (x : Served) where
   abbrev IsLeaf : Option ℕ → Type 0
   IsLeaf read = x.seen.leaf ≡ option_map (λ (n : ℕ). leaf_of_draw (height_at v.public x.skeleton) (d.draw n)) read
 
   drawn_at : (read : Option ℕ) (numbers : List ℕ) (seen : List Served) → IsLeaf read
-      → IsDrawn d.draw (height_at v.public x.skeleton) (option_map (λ (n : ℕ). leaf_of_draw (height_at v.public x.skeleton) (d.draw n)) read) numbers (AreDrawn d.draw seats seen) → AreDrawn d.draw (v ∷ seats) (x ∷ seen) numbers
-  drawn_at read numbers seen is are = subst (λ (o : Option ℕ). IsDrawn d.draw (height_at v.public x.skeleton) o numbers (AreDrawn d.draw seats seen)) (sym is) are
+      → IsDrawn d.draw (height_at v.public x.skeleton) (option_map (λ (n : ℕ). leaf_of_draw (height_at v.public x.skeleton) (d.draw n)) read) numbers (AreDrawn d.draw positions seen) → AreDrawn d.draw (v ∷ positions) (x ∷ seen) numbers
+  drawn_at read numbers seen is are = subst (λ (o : Option ℕ). IsDrawn d.draw (height_at v.public x.skeleton) o numbers (AreDrawn d.draw positions seen)) (sym is) are
 
-  last_by : (read : Option ℕ) → IsLeaf read → IfSome read (λ n. Unread d old g.number n) → Reads d old g (v ∷ seats) (x ∷ [])
+  last_by : (read : Option ℕ) → IsLeaf read → IfSome read (λ n. Unread d old g.number n) → Reads d old g (v ∷ positions) (x ∷ [])
   last_by None is fresh = record { numbers = []; are = drawn_at None [] [] is refl; apart = none_apart; unread = All-nil (Unread d old g.number) }
   last_by (Some n) is fresh = record {
     numbers = n ∷ [];
@@ -56,7 +56,7 @@ module _ (d : Draws) (taken : ℕ) (old new : List Index) (g : Given d old) (v :
   }
 
   more_by : (read : Option ℕ) (seen : List Served) → IsLeaf read → IfSome read (λ n. Unread d old g.number n) → (on : Onwards d taken old new g read)
-      → Reads (behind d taken) new on.given seats seen → Reads d old g (v ∷ seats) (x ∷ seen)
+      → Reads (behind d taken) new on.given positions seen → Reads d old g (v ∷ positions) (x ∷ seen)
   more_by None seen is fresh on rest = record {
     numbers = rest.numbers;
     are = drawn_at None rest.numbers seen is rest.are;
@@ -75,8 +75,8 @@ module _ {R : Type 0} (state : R → RevState) (m0 m1 : Machine R) (stmt : Stmt)
   abbrev here : Served
   here = record { skeleton = skeleton stmt; seen = seen_of m1.engine }
 
-  abbrev there : Seat
-  there = seat_alone (public_of m0.engine) (asked_of m0) here
+  abbrev there : Position
+  there = position_alone (public_of m0.engine) (asked_of m0) here
 
   abbrev taken : ℕ
   taken = draws_taken (public_of m0.engine) (skeleton stmt) (seen_of m1.engine).end
@@ -88,14 +88,14 @@ module _ {R : Type 0} (state : R → RevState) (m0 m1 : Machine R) (stmt : Stmt)
     pub reads_last : Reads d (indexes_of m0.engine) g (there ∷ []) (here ∷ [])
     reads_last = last_by d taken (indexes_of m0.engine) (indexes_of m1.engine) g there [] here reads.read reads.is reads.fresh
 
-    pub reads_more : (seats : List Seat) (seen : List Served) → m1.engine.ended ≡ false
-        → ((h : Given (behind d taken) (indexes_of m1.engine)) → Reads (behind d taken) (indexes_of m1.engine) h seats seen)
-        → Reads d (indexes_of m0.engine) g (there ∷ seats) (here ∷ seen)
-    reads_more seats seen lives rest =
+    pub reads_more : (positions : List Position) (seen : List Served) → m1.engine.ended ≡ false
+        → ((h : Given (behind d taken) (indexes_of m1.engine)) → Reads (behind d taken) (indexes_of m1.engine) h positions seen)
+        → Reads d (indexes_of m0.engine) g (there ∷ positions) (here ∷ seen)
+    reads_more positions seen lives rest =
         let on = reads.onwards lives in
-        more_by d taken (indexes_of m0.engine) (indexes_of m1.engine) g there seats here reads.read seen reads.is reads.fresh on (rest on.given)
+        more_by d taken (indexes_of m0.engine) (indexes_of m1.engine) g there positions here reads.read seen reads.is reads.fresh on (rest on.given)
 
-    -- what is known behind it
+    -- what is known after it
     pub given_after : m1.engine.ended ≡ false → Given (behind d taken) (indexes_of m1.engine)
     given_after lives = (reads.onwards lives).given
 

@@ -1,5 +1,5 @@
 -- What a session leaves whose tables are saved, by the walk over its texts.
-use Rattle.ob_shell.proofs.Words.{Answer, Base, BeginsToSave, Ending, first_draws, KeySet, Lie, List, Machine, None, Option, refl, RevState, Some, Story, world_of, ℕ, ◌≡◌}
+use Rattle.ob_shell.proofs.Words.{Answer, Base, BeginsToSave, Ending, first_draws, KeySet, FalseRead, List, Machine, None, Option, refl, RevState, Some, Story, world_of, ℕ, ◌≡◌}
 use Rattle.ob_headline.specs.Flights.{words_of}
 use Rattle.ob_headline.specs.SavedHeadline.{LeavesSaved}
 use Rattle.ob_shell.proofs.LeaveLemmas.{leaves_saved}
@@ -21,7 +21,7 @@ module _ {R : Type 0} {Lost : Type 0} (state : R → RevState) (ending : Ending)
     entries = walk.entries;
   }
 
-  no_lie_first : (o : Option Lie) → m0.store.lie ≡ o → m2.store.lie ≡ None → m0.store.lie ≡ None
+  no_lie_first : (o : Option FalseRead) → m0.store.lie ≡ o → m2.store.lie ≡ None → m0.store.lie ≡ None
   no_lie_first None is none = is
   no_lie_first (Some lie) is none = let told = walk.lie lie is in absurd (cc (told, none))
 

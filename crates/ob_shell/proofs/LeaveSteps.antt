@@ -48,7 +48,7 @@ pub uncut : (o : Outcome) (n k : ℕ) → is_fault o ≡ false → outcome_end o
 uncut (Refused r) n k own is = refused_uncut r n k own is
 uncut other n k own is = cc is
 
--- ---- a statement behind which tables aren't saved leaves them
+-- ---- a statement after which tables aren't saved leaves them
 followed_same : (o : Option Refusal) (ts : Tables) → followed o ts ts ≡ ts
 followed_same None ts = refl
 followed_same (Some r) ts = refl
@@ -207,7 +207,7 @@ module _ {R : Type 0} (state : R → RevState) (secret salt : List ℕ) (base : 
     mark_same : m1.keeper ≡ m0.keeper → HoldsMark held m0 → HoldsMark held m1
     mark_same same holds = record { mark = holds.mark; is = ap (λ (k : KeeperState). k.held) same ∙ holds.is; which = holds.which }
 
-    -- behind what was saved
+    -- after what was saved
     mark_new : (result : Result Outcome RunStop) (was : WasSaved state stmt (statements_of m1.owed) result m0.engine m0.store m1.engine m1.store m0.keeper m1.keeper) → HoldsSaved state was.engine was.store m1.store m1.keeper → HoldsMark held m1
     mark_new result was holds = record {
       mark = own_mark state was.engine was.store m1.store m1.keeper holds was.ran.goes_on.agrees;

@@ -1,5 +1,5 @@
 -- What one statement does to the tables that rest for the mark that is held, where the store gave what was written.
-use Rattle.ob_shell.proofs.Words.{AllInsert, ap, AreByRegion, AreDraws, AreFlat, arith, asked_of, Base, Bool, by_fault, Does, Draws, Ending, Err, false, headings, held_headings, How, if◌then◌else◌, inl, inr, inserts_into, is_fault, is_joined, IsTrue, KeeperState, KeySet, Lie, List, Machine, Mark, None, Ok, Option, Outcome, Public, public_of, Ran, refl, Represents, RestsAlike, RestsOn, Result, RevState, RunStop, Seen, seen_of, seen_or_cut, Session, session_of, session_stop, settle_all, Since, Skeleton, skeleton, Some, statements_of, Stmt, StoreState, subst, sym, Tables, true, Whole, ℕ, [], ◌&&◌, ◌<◌, ◌∙◌, ◌∷◌, ◌≡◌}
+use Rattle.ob_shell.proofs.Words.{AllInsert, ap, AreByRegion, AreDraws, AreFlat, arith, asked_of, Base, Bool, by_fault, Does, Draws, Ending, Err, false, headings, held_headings, How, if◌then◌else◌, inl, inr, inserts_into, is_fault, is_joined, IsTrue, KeeperState, KeySet, FalseRead, List, Machine, Mark, None, Ok, Option, Outcome, Public, public_of, Ran, refl, Represents, RestsAlike, RestsOn, Result, RevState, RunStop, Seen, seen_of, seen_or_cut, Session, session_of, session_stop, settle_all, Since, Skeleton, skeleton, Some, statements_of, Stmt, StoreState, subst, sym, Tables, true, Whole, ℕ, [], ◌&&◌, ◌<◌, ◌∙◌, ◌∷◌, ◌≡◌}
 use Rattle.ob_base.specs.declared.refusal.Stop.TheVariants as Stops
 use Rattle.ob_base.specs.declared.skeleton.Skeleton.TheVariants as Skeletons
 use Rattle.ob_exec.specs.Ran.{WasSaved, is_saved_behind, is_whole}
@@ -21,7 +21,7 @@ use Rattle.ob_tables.specs.declared.stop.RunStop.TheVariants.{KeeperFault, NoMem
 pub none_earlier : (a b : StoreState) → Since a b → b.lie ≡ None → a.lie ≡ None
 none_earlier a b later none = go a.lie refl
   where
-    go : (o : Option Lie) → a.lie ≡ o → a.lie ≡ None
+    go : (o : Option FalseRead) → a.lie ≡ o → a.lie ≡ None
     go None is = is
     go (Some lie) is = let told = later.lie lie is in absurd (cc (told, none))
 
@@ -52,7 +52,7 @@ module _ {R : Type 0} (state : R → RevState) (secret salt : List ℕ) (base : 
     abbrev owed : List Stmt
     owed = statements_of m1.owed
 
-    -- the tables behind it, where it wasn't cut off, and behind all of them
+    -- the tables after it, where it wasn't cut off, and after all of them
     abbrev pub behind : Tables
     behind = settle d p (asked_of m0) tables stmt
 
@@ -177,7 +177,7 @@ module _ {R : Type 0} (state : R → RevState) (secret salt : List ℕ) (base : 
         ]
 
     -- ---- the session ends with it
-    -- the tables behind all of them rest, or those before it
+    -- the tables after all of them rest, or those before it
     pub record RestsLast (ending : Ending) : Type 0 where
       pub more : Bool
       pub unanswered : more ≡ true → MayTakeMore ending

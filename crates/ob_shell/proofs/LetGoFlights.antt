@@ -1,5 +1,5 @@
 -- A store whose list lets go of what statements in flight asked: nothing else that is known of them has changed.
-use Rattle.ob_shell.proofs.Words.{Engine, inl, inr, List, Ok, Option, RanAloft, ReadsTrueUntil, RevState, Seen, Stmt, StoreState, subst, sym, Tables, Tally, world_of, ℕ}
+use Rattle.ob_shell.proofs.Words.{Engine, inl, inr, List, Ok, Option, RanInFlight, ReadsTrueUntil, RevState, Seen, Stmt, StoreState, subst, sym, Tables, Tally, world_of, ℕ}
 use Rattle.ob_inflight.specs.Closing.{Closed}
 use Rattle.ob_shell.proofs.LetGoLemmas.{agrees_left, calm_now, represents_left, seals_now, since_left}
 use Rattle.ob_shell.specs.Flying.{CountsFlight}
@@ -14,8 +14,8 @@ module _ {R : Type 0} (state : R → RevState) (words left : ℕ → ℕ) (stmts
     reads_back : (tables : Tables) → ReadsTrueUntil state old s new last tables → ReadsTrueUntil state old s new t tables
     reads_back tables reads = record { tells = reads.tells; held = reads.held; calm = reads.calm; unfit = record { unfit = reads.unfit.unfit } }
 
-    aloft_left : (seens : List Seen) (ended : List Closed) → RanAloft {T = Unit {0}} state words left stmts seens ended (Ok tt) old s new t → RanAloft {T = Unit {0}} state words left stmts seens ended (Ok tt) old s new last
-    aloft_left seens ended is = record {
+    in_flight_left : (seens : List Seen) (ended : List Closed) → RanInFlight {T = Unit {0}} state words left stmts seens ended (Ok tt) old s new t → RanInFlight {T = Unit {0}} state words left stmts seens ended (Ok tt) old s new last
+    in_flight_left seens ended is = record {
       long = is.long;
       ran = record {
         asked = is.ran.asked;
@@ -61,7 +61,7 @@ module _ {R : Type 0} (state : R → RevState) (words left : ℕ → ℕ) (stmts
         seens = is.answered.seens;
         flew = record {
           ended = is.answered.flew.ended;
-          ran = aloft_left is.answered.seens is.answered.flew.ended is.answered.flew.ran;
+          ran = in_flight_left is.answered.seens is.answered.flew.ended is.answered.flew.ran;
           answered = is.answered.flew.answered;
         };
         appends = is.answered.appends;

@@ -8,7 +8,7 @@ use Rattle.ob_exec.specs.Ran.{CarriedOut, KeeperBehind, RanWhole}
 use Rattle.ob_flat.specs.Flats as F
 use Rattle.ob_flat.specs.declared.flat.Flat.{Flat}
 use Rattle.ob_mean.specs.Verdict.{Held}
-use Rattle.ob_oram.specs.Indexes.{IsIndex, Lies}
+use Rattle.ob_oram.specs.Indexes.{IsIndex, IsStoredAs}
 use Rattle.ob_path.specs.States.{State}
 use Rattle.ob_row.specs.Rows.{Row}
 use Rattle.ob_row.specs.Slots.{Slots}
@@ -20,7 +20,7 @@ use Rattle.ob_tables.specs.Serving.{Means}
 use Rattle.ob_tables.specs.Telling.{AreHeld, HoldsTable, Kept, Meant, ReadsTrue}
 use Rattle.ob_vault.specs.Calls.{Seals}
 use Rattle.ob_vault.specs.State.{VaultState}
-use Rattle.ob_vault.specs.Tied.{AllSealed, Calm, Holds, Ready, Scope}
+use Rattle.ob_vault.specs.Tied.{AllSealed, Untampered, Holds, Ready, Scope}
 use Rattle.ob_vault.specs.declared.region.Order.{Order}
 
 -- ---- of a vault and the store
@@ -47,7 +47,7 @@ module _ (v : VaultState) (t : StoreState) (room : ℕ) where
     laps = is.laps;
   }
 
-  pub calm_now : Calm was → Calm now
+  pub calm_now : Untampered was → Untampered now
   calm_now calm = record { calm = calm.calm; within = calm.within }
 
   sealed_now : (good : ℕ → List ℕ → Bool) (scope : Scope) → AllSealed good scope was → AllSealed good scope now
@@ -96,7 +96,7 @@ module _ (v : VaultState) (t : StoreState) (room : ℕ) where
     buffer = is.buffer;
   }
 
-  lies_now : (index : Index) (s : State Row) → Lies index s was → Lies index s now
+  lies_now : (index : Index) (s : State Row) → IsStoredAs index s was → IsStoredAs index s now
   lies_now index s is = record {
     lies = record { tree = slots_now _ _ _ is.lies.tree; stash = slots_now _ _ _ is.lies.stash; leaves = is.lies.leaves };
     stands = is.stands;
@@ -331,7 +331,7 @@ module _ {R : Type 0} (state : R → RevState) (m0 m1 : Machine R) (room : ℕ) 
   pub ready_left : {Saves : Type 0} → IsReady state Saves m1 → IsReady state Saves behind
   ready_left ready = record { agrees = agrees_left state m1.engine m1.store room ready.agrees; lives = ready.lives; settled = ready.settled; saves = ready.saves }
 
--- ---- behind a text, of which something was asked or nothing
+-- ---- after a text, of which something was asked or nothing
 pub asked_from : (from : ℕ) (s t : StoreState) → LetsGoFrom from s t → t.asked ≡ s.asked
 asked_from from s t (inl (none, same)) = ap (λ (u : StoreState). u.asked) same
 asked_from from s t (inr (more, room, is)) = ap (λ (u : StoreState). u.asked) is

@@ -26,12 +26,12 @@ pub mod TraceLemmas
 pub mod ReplayLemmas
 pub mod WithLemmas
 pub mod LastingLemmas
-pub mod CalmLemmas
+pub mod UntamperedLemmas
 pub mod FailureLemmas
 pub mod LeafLemmas
 pub mod HowLemmas
 pub mod EndLemmas
-pub mod SeatLemmas
+pub mod PositionLemmas
 pub mod SelectLemmas
 pub mod FlownLists
 pub mod FlightSeen
@@ -74,7 +74,7 @@ pub mod FirstPartLemmas
 pub mod LaterLemmas
 pub mod LetGoLemmas
 pub mod LetGoFlights
-pub mod AloftLemmas
+pub mod InFlightLemmas
 pub mod FlightPrints
 pub mod FlightTakes
 pub mod DisturbLemmas

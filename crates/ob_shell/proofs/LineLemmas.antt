@@ -133,12 +133,12 @@ first_cut {w0 = w0} {w1 = w1} {F = F} o outcomes out = record {
   cut = subst (λ (l : List ℕ). Outputs w0 w1 F (l ++ closing_line o)) (sym lines_nil) out;
 }
 
--- the same where the first was lost, or a part of the trace behind it was
+-- the same where the first was lost, or a part of the trace after it was
 pub first_lost : {w0 w1 t0 t1 : Option (List ℕ)} {out0 out1 : ℕ} {text : List ℕ} (o : Outcome) (outcomes : List Outcome) → Outputs w0 w1 (Rises out0 out1) (closing_line o) → Outputs t0 t1 (Unit {0}) text → BatchCut (o ∷ outcomes) w0 w1 t0 t1 text out0 out1
 unfolding first_cut
 first_lost o outcomes line traced = record { lines = first_cut o outcomes line; traced = traced; behind = inl refl }
 
--- ---- the first, and behind it the others
+-- ---- the first, and after it the others
 module _ {A E : Type 0} (w0 w1 w2 : Option (List ℕ)) (o : Outcome) (outcomes : List Outcome) (first : Appends w0 w1 (closing_line o)) where
   pub all_lines : (result : Result A E) → OnOk result (Appends w1 w2 (lines outcomes)) → OnOk result (Appends w0 w2 (lines (o ∷ outcomes)))
   all_lines (Ok x) rest = subst (λ (l : List ℕ). Appends w0 w2 l) (sym (lines_cons o outcomes)) (Appends-trans _ _ _ _ _ first rest)

@@ -4,10 +4,10 @@ use Rattle.ob_headline.specs.Disturbed.{Course, behind_flown, course_alone, cour
 use Rattle.ob_mean.specs.Replay.{Alone, seen_now, served_full}
 use Rattle.ob_script.specs.Flights.{Alone as One, Entry, Together, merge, trace_in, words_from}
 use Rattle.ob_shell.proofs.HowLemmas.{StartsApart, course_of, flushed, may_by, met_trace, then_select}
-use Rattle.ob_shell.proofs.SeatLemmas.{plus, trace_flown_then, words_later, words_whole}
+use Rattle.ob_shell.proofs.PositionLemmas.{plus, trace_flown_then, words_later, words_whole}
 use Rattle.ob_shell.proofs.SelectLemmas.{leaves_all, room_flown}
 
--- ---- behind turns that were drawn
+-- ---- after turns that were drawn
 abbrev later : (u : ℕ) → Course → Course
 later u c = record c { turns = u + c.turns }
 
@@ -93,7 +93,7 @@ module _ (most : ℕ) (words : ℕ → ℕ) (s : Session) (listed : headings s.t
       ∙ (λ i. (if fly i then (if is i then [] else meant_together s (w ++ stmt ∷ [])) else meant_together s w ++ One (now_alone (landed words c) stmt) ∷ [])
       ++ meant_entries most words (if fly i then (if is i then gathering stmt c else landed words (gathering stmt c)) else course_alone (landed words c) stmt) spelt)
 
-  -- the next one behind them doesn't fly with them
+  -- the next one after them doesn't fly with them
   off_by : (n : ℕ) (sk : Skeleton) → 1 ≤ n → n < most → place_now most s.public n sk ≡ 0 → (b : Bool) → may_fly s.public sk ≡ b → b ≡ false
   off_by n sk some less none false is = refl
   off_by n sk some less none true is =
@@ -158,7 +158,7 @@ module _ (most : ℕ) (words : ℕ → ℕ) (s : Session) (listed : headings s.t
       next_one g [] stmt (map Ok stmts ++ spelt) (All-nil Flies) own true (room_for (0 + 1) most (omega (arith, some, few)))
       ∙ with_them (stmt ∷ []) stmts spelt (All-cons Flies stmt [] own (All-nil Flies)) rest (omega arith) (omega (arith, some, few)) (omega (arith, few)) apart
 
-  -- ---- what they ask, and the others behind them
+  -- ---- what they ask, and the others after them
   module _ (words1 : ℕ → ℕ) (s1 : Session) where
     behind_them : (g : Option Gathering) (stmt next : Stmt) (more : List Stmt) (spelt : List Spelt) → All Flies (stmt ∷ (next ∷ more)) → length (stmt ∷ (next ∷ more)) ≤ most → StartsApart most s.public (length (stmt ∷ (next ∷ more))) spelt
         → words1 ≡ words_from words (turns_of s.public (flown_meant s (stmt ∷ (next ∷ more)))) → s1 ≡ behind_flown words s (flown_meant s (stmt ∷ (next ∷ more)))

@@ -1,5 +1,5 @@
 -- What the changes of a store do to a run.
-use Rattle.ob_shell.proofs.Words.{Access, ap, arith, BadKey, Bool, Config, cut_off, Disturbance, Ending, EndsUntampered, Err, false, Faults, faults_of, FlightSettings, flying, fresh, Headline, inl, inr, IsBefore, IsHonest, IsSteady, IsTrue, keys_in, KeySet, length, Lie, List, nat_lt, None, Ok, Option, Outside, outside_of, Ran, refl, Report, RisesBy, Seed, SinksRose, Some, statements, status_of, StoreState, Story, subst, sym, take, Tally, Traced, true, Usage, ℕ, [], ⊤, ◌+◌, ◌∙◌, ◌∷◌, ◌≡◌, ◌≢◌}
+use Rattle.ob_shell.proofs.Words.{Access, ap, arith, BadKey, Bool, Config, cut_off, Disturbance, Ending, EndsUntampered, Err, false, Faults, faults_of, FlightSettings, flying, fresh, Headline, inl, inr, IsBefore, IsHonest, IsSteady, IsTrue, keys_in, KeySet, length, FalseRead, List, nat_lt, None, Ok, Option, Outside, outside_of, Ran, refl, Report, RisesBy, Seed, SinksRose, Some, statements, status_of, StoreState, Story, subst, sym, take, Tally, Traced, true, Usage, ℕ, [], ⊤, ◌+◌, ◌∙◌, ◌∷◌, ◌≡◌, ◌≢◌}
 use Rattle.std.proofs.Common.{not, IsSome}
 use Rattle.std.proofs.lemmas.List.Folds.{list_all-map}
 use Rattle.std.specs.List.{list_all}
@@ -86,7 +86,7 @@ failed_none list = refl
 -- no act came: no read lied
 no_lie_by : (list : List Meddle) (s : StoreState) → Shows list s → has_acted list (length s.asked) ≡ false → s.lie ≡ None
 no_lie_by list s show none = go s.lie refl where
-  go : (o : Option Lie) → s.lie ≡ o → s.lie ≡ None
+  go : (o : Option FalseRead) → s.lie ≡ o → s.lie ≡ None
   go None is = is
   go (Some lie) is = absurd (cc (show.caused lie is, acted_later list (length lie.before + 1) (length s.asked) (omega (arith, show.asked lie is)) none))
 

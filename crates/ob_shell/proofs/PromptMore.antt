@@ -1,5 +1,5 @@
--- Texts that were answered behind those of which it is said what waits.
-use Rattle.ob_shell.proofs.Words.{All, All-tail, AllInsert, AnsweredBut, ap, append-nil, append_assoc, arith, before_read, Begins, Bool, cases_lt, drop, false, inl, inr, length, length-append, List, map, may_fly, Ok, Public, refl, skeleton, SpellFirst, Stmt, subst, sym, true, ℕ, [], ◌++◌, ◌<◌, ◌∙◌, ◌∷◌, ◌≡◌, ◌≤◌, ◌⊎◌}
+-- Texts that were answered after those of which it is said what waits.
+use Rattle.ob_shell.proofs.Words.{All, All-tail, AllInsert, AnsweredExcept, ap, append-nil, append_assoc, arith, before_read, Begins, Bool, cases_lt, drop, false, inl, inr, length, length-append, List, map, may_fly, Ok, Public, refl, skeleton, SpellFirst, Stmt, subst, sym, true, ℕ, [], ◌++◌, ◌<◌, ◌∙◌, ◌∷◌, ◌≡◌, ◌≤◌, ◌⊎◌}
 use Rattle.ob_headline.proofs.PromptLemmas.{prompt_by}
 use Rattle.ob_headline.specs.Batches.{Wait}
 use Rattle.ob_headline.specs.Flights.{WaitToFly}
@@ -60,10 +60,10 @@ module _ (p : Public) (most flown : ℕ) (texts : List (List ℕ)) where
       go [] some left right = absurd (omega (arith, some))
       go (y ∷ d) some left right = let a : x ≡ y = cc left in let b : h ≡ y = cc right in b ∙ sym a
 
-  answered_one : (served : List (List ℕ)) (h : List ℕ) (more : List (List ℕ)) → AnsweredBut p most flown texts served → Begins texts (served ++ (h ∷ more)) → AnsweredBut p most flown texts (served ++ h ∷ [])
+  answered_one : (served : List (List ℕ)) (h : List ℕ) (more : List (List ℕ)) → AnsweredExcept p most flown texts served → Begins texts (served ++ (h ∷ more)) → AnsweredExcept p most flown texts (served ++ h ∷ [])
   answered_one served h more waits all = go waits.waiting waits.wait waits.answered.rest waits.answered.joined
     where
-      short : length texts ≤ length served → (ws : List (List ℕ)) → Wait most ws ⊎ WaitToFly p flown ws → (r : List (List ℕ)) → served ++ ws ≡ texts ++ r → AnsweredBut p most flown texts (served ++ h ∷ [])
+      short : length texts ≤ length served → (ws : List (List ℕ)) → Wait most ws ⊎ WaitToFly p flown ws → (r : List (List ℕ)) → served ++ ws ≡ texts ++ r → AnsweredExcept p most flown texts (served ++ h ∷ [])
       short less ws wait r joined =
           let same : served ≡ texts ++ drop (length texts) served = front texts r served ws (sym joined) less in
           record {
@@ -75,7 +75,7 @@ module _ (p : Public) (most flown : ℕ) (texts : List (List ℕ)) where
             };
           }
 
-      go : (ws : List (List ℕ)) → Wait most ws ⊎ WaitToFly p flown ws → (r : List (List ℕ)) → served ++ ws ≡ texts ++ r → AnsweredBut p most flown texts (served ++ h ∷ [])
+      go : (ws : List (List ℕ)) → Wait most ws ⊎ WaitToFly p flown ws → (r : List (List ℕ)) → served ++ ws ≡ texts ++ r → AnsweredExcept p most flown texts (served ++ h ∷ [])
       go [] wait r joined = short (omega (arith, ap length joined, length-append served [], length-append texts r)) [] wait r joined
       go (x ∷ w) wait r joined = elim (cases_lt (length served) (length texts)) [
         | inl less ↦ record {
@@ -89,12 +89,12 @@ module _ (p : Public) (most flown : ℕ) (texts : List (List ℕ)) where
         | inr past ↦ short past (x ∷ w) wait r joined
       ]
 
-  pub prompt_more : (served held : List (List ℕ)) → AnsweredBut p most flown texts served → (more : List (List ℕ)) → Begins texts ((served ++ held) ++ more) → AnsweredBut p most flown texts (served ++ held)
-  prompt_more served [] waits more all = subst (AnsweredBut p most flown texts) (sym (append-nil served)) waits
+  pub prompt_more : (served held : List (List ℕ)) → AnsweredExcept p most flown texts served → (more : List (List ℕ)) → Begins texts ((served ++ held) ++ more) → AnsweredExcept p most flown texts (served ++ held)
+  prompt_more served [] waits more all = subst (AnsweredExcept p most flown texts) (sym (append-nil served)) waits
   prompt_more served (h ∷ held) waits more all =
       let one = answered_one served h (held ++ more) waits (subst (Begins texts) (append_assoc served (h ∷ held) more) all) in
       let joined : (served ++ h ∷ []) ++ held ≡ served ++ (h ∷ held) = append_assoc served (h ∷ []) held in
-      subst (AnsweredBut p most flown texts) joined (prompt_more (served ++ h ∷ []) held one more (subst (λ (l : List (List ℕ)). Begins texts (l ++ more)) (sym joined) all))
+      subst (AnsweredExcept p most flown texts) joined (prompt_more (served ++ h ∷ []) held one more (subst (λ (l : List (List ℕ)). Begins texts (l ++ more)) (sym joined) all))
 
 -- what was whole before the last read comes first of all
 pub whole_before : (ended : Bool) (gave : ℕ) (bytes : List ℕ) (all : List (List ℕ)) → texts_in ended bytes ≡ all → Begins (texts_in false (before_read gave bytes)) all

@@ -1,5 +1,5 @@
 -- How the reading of a session's texts ends.
-use Rattle.ob_shell.proofs.Words.{Access, AnsweredBut, ap, append-nil, append_assoc, AreSpelt, arith, asked_of, before_read, Bool, empty_tally, Err, false, Faults, faults_of, Fed, Fetch, Gathered, inl, inr, IsAtEnd, length, List, Machine, None, Ok, Option, OutFailed, public_of, refl, Result, RevState, RunStop, session_stop, Silenced, Some, standing, Stmt, Stop, stop_of, StopCause, subst, sym, Tally, Traced, TracedAll, true, ℕ, [], ◌++◌, ◌<◌, ◌∙◌, ◌∷◌, ◌≡◌, ◌⊎◌}
+use Rattle.ob_shell.proofs.Words.{Access, AnsweredExcept, ap, append-nil, append_assoc, AreSpelt, arith, asked_of, before_read, Bool, empty_tally, Err, false, Faults, faults_of, Fed, Fetch, Gathered, inl, inr, IsAtEnd, length, List, Machine, None, Ok, Option, OutFailed, public_of, refl, Result, RevState, RunStop, session_stop, Silenced, Some, standing, Stmt, Stop, stop_of, StopCause, subst, sym, Tally, Traced, TracedAll, true, ℕ, [], ◌++◌, ◌<◌, ◌∙◌, ◌∷◌, ◌≡◌, ◌⊎◌}
 use Rattle.ob_base.specs.declared.refusal.Stop.TheVariants as Stops
 use Rattle.ob_headline.proofs.PromptLemmas.{prompt_all, prompt_by}
 use Rattle.ob_headline.proofs.TextLemmas.{rest_of-append, rest_of-cons, rest_of-nil, rest_of-over, texts_of-append, texts_of-cons, texts_of-nil, texts_of-over}
@@ -9,7 +9,7 @@ use Rattle.ob_shell.proofs.FeedLemmas.{Fed-then}
 use Rattle.ob_shell.proofs.GatherLemmas.{comes_free}
 use Rattle.ob_shell.proofs.RunLemmas.{below_is_not_over, ran_broken, ran_turn}
 use Rattle.ob_shell.proofs.TraceLemmas.{traced_cut, traced_then, traced_whole}
-use Rattle.ob_shell.proofs.WaitLemmas.{answered_but, break_then, so_then, steps_flown, steps_most, steps_tables}
+use Rattle.ob_shell.proofs.WaitLemmas.{answered_except, break_then, so_then, steps_flown, steps_most, steps_tables}
 use Rattle.ob_shell.specs.Running.{IsQuiet, SoFar, is_quiet}
 use Rattle.ob_shell.specs.Serving.{EndsReading, HasRead, IsNotTaken, ReadsTexts, TakesUntil, WantsRoom, read_end}
 use Rattle.ob_shell.specs.Waiting.{AreWaiting, BreaksIn, ComesFree, IsFree, ServedSo}
@@ -154,8 +154,8 @@ module _ {R : Type 0} {state : R → RevState} {on : Bool} {f0 f2 : Fetch} (gave
         let most = sym (steps_most state m0 (standing m1 [] so.so.gathered) so.so.served so.so.answers so.so.steps) in
         let flown = sym (steps_flown state m0 (standing m1 [] so.so.gathered) so.so.served so.so.answers so.so.steps) in
         ran_broken halted.stop so.fed.piece true (texts_of [] so.passed ++ tail_text p) [] so.fed.consumed so.fed.taken so.fed.limit (λ _. at_end) (all_parts so none ∙ sym (append-nil (texts_of [] so.passed ++ tail_text p))) (break_then so.so before stopped)
-        (subst (λ (two : ℕ × ℕ). AnsweredBut (public_of now.middle.engine) two.0 two.1 (texts_in false (before_read gave (f0.unread ++ so.fed.piece))) (so.so.served ++ now.served)) (λ i. (sym most i, sym flown i))
-        (answered_but m1.flights.settings (public_of m1.engine) (asked_of m1) batch (texts_of [] so.passed) so.so.served so.so.held now.served now.more (tail_text p) _ waits so.so.spelt so.so.parts now.parts begins
+        (subst (λ (two : ℕ × ℕ). AnsweredExcept (public_of now.middle.engine) two.0 two.1 (texts_in false (before_read gave (f0.unread ++ so.fed.piece))) (so.so.served ++ now.served)) (λ i. (sym most i, sym flown i))
+        (answered_except m1.flights.settings (public_of m1.engine) (asked_of m1) batch (texts_of [] so.passed) so.so.served so.so.held now.served now.more (tail_text p) _ waits so.so.spelt so.so.parts now.parts begins
         (public_of now.middle.engine) (λ rest spelt all. steps_tables state (standing m1 [] so.so.gathered) now.middle now.served now.answers now.steps rest batch spelt all)))
     finish_reads old new Saves (Ok (Some stop)) waits same takes = record {
       piece = so.fed.piece;
@@ -194,7 +194,7 @@ quiet_by : (s0 s1 : ℕ) (old new : ℕ × ℕ) (quiet : Bool) → Silenced quie
 quiet_by s0 s1 old new true told = told
 quiet_by s0 s1 old new false told = told
 
--- ---- what else is known of a part behind which no more is read
+-- ---- what else is known of a part after which no more is read
 module _ {R : Type 0} (state : R → RevState) (Saves : Type 0) (on : Bool) (May : Gathered → Type 0) (Then : (old new : Gathered) → Type 0) (b0 b1 : List Stmt) (texts : List (List ℕ)) (Why : Stop → Type 0) (r0 r1 : Tally) (w0 w1 t1 t2 : Option (List ℕ)) (m1 m2 : Machine R) where
   pub more_traced : (t0 : Option (List ℕ)) (old new : ℕ × ℕ) {a0 : List Access} (result : Result (Option Stop) TextHalted) → TracedAll on a0 m1.store.asked t0 t1 → TakesUntil state Saves on May Then b0 b1 texts Why r0 r1 w0 w1 t1 t2 (faults_of 0 old.0 old.1) (faults_of 0 new.0 new.1) m1 m2 result → Traced on a0 m2.store.asked t0 t2 (IsQuiet (read_end result))
   more_traced t0 old new (Ok None) before takes = traced_whole _ (traced_then before takes.traced)

@@ -1,5 +1,5 @@
 -- One statement that was answered or cut off, by its meaning.
-use Rattle.ob_shell.proofs.Words.{Access, after, Answer, ap, AreDraws, arith, asked_of, Bool, by_fault, Cut, Does, Draws, earlier, early_refusal, engine_start, false, Heading, headings, held_headings, How, inl, inr, is_fault, is_late, is_store_fault, length, length-append, Lie, limits_of, List, Machine, next, None, Option, Outcome, public_of, refl, Refusal, refusal_now, Refused, RefusedEarly, Represents, Result, RevState, RunStop, script, Seen, seen_of, seen_or_cut, Session, session_of, settle_all, Since, skeleton, Some, statements_of, Stmt, StoreState, subst, sym, Tables, true, whole_script, ℕ, [], ◌++◌, ◌+◌, ◌∙◌, ◌≡◌, ◌≤◌, ◌⊎◌}
+use Rattle.ob_shell.proofs.Words.{Access, after, Answer, ap, AreDraws, arith, asked_of, Bool, by_fault, Cut, Does, Draws, earlier, early_refusal, engine_start, false, Heading, headings, held_headings, How, inl, inr, is_fault, is_late, is_store_fault, length, length-append, FalseRead, limits_of, List, Machine, next, None, Option, Outcome, public_of, refl, Refusal, refusal_now, Refused, RefusedEarly, Represents, Result, RevState, RunStop, script, Seen, seen_of, seen_or_cut, Session, session_of, settle_all, Since, skeleton, Some, statements_of, Stmt, StoreState, subst, sym, Tables, true, whole_script, ℕ, [], ◌++◌, ◌+◌, ◌∙◌, ◌≡◌, ◌≤◌, ◌⊎◌}
 use Rattle.ob_base.specs.declared.refusal.Refusal.TheVariants.{StoreFault}
 use Rattle.ob_headline.proofs.CutLemmas.{cut_shorter}
 use Rattle.ob_mean.specs.Lawful.{CutUpTo}
@@ -27,7 +27,7 @@ outcome_cases o whole cut with also a b = go (is_fault o) refl a b where
   go false e a b = inl (a, b)
 
 -- ---- no lie is told before a state in which none is
-pub no_lie : (o : Option Lie) (a b : StoreState) → a.lie ≡ o → Since a b → b.lie ≡ None → a.lie ≡ None
+pub no_lie : (o : Option FalseRead) (a b : StoreState) → a.lie ≡ o → Since a b → b.lie ≡ None → a.lie ≡ None
 no_lie None a b is later none = is
 no_lie (Some lie) a b is later none = absurd (cc (later.lie lie is, none))
 

@@ -1,5 +1,5 @@
 -- What a session has done, byte by byte, and how it ends.
-use Rattle.ob_shell.proofs.Words.{AnsweredBut, ap, append-nil, append_assoc, Appends, AreSpelt, arith, asked_of, batch_most, before_read, Begins, Bool, empty_tally, EndsBy, Engine, Err, false, Fed, Fetch, Flights, flights_at, flights_of, FlightSettings, Gathered, IsAtEnd, KeeperState, length, List, Machine, machine_of, most_flown, most_some, Option, OutFailed, Outputs, Outputs-whole, printed, public_of, refl, Result, RevState, RunStop, session_stop, SessionRan, standing, Stmt, Stop, StoreState, subst, sym, Tally, TracedAll, true, ℕ, [], ⊤, ◌++◌, ◌+◌, ◌<◌, ◌∙◌, ◌∷◌, ◌≡◌}
+use Rattle.ob_shell.proofs.Words.{AnsweredExcept, ap, append-nil, append_assoc, Appends, AreSpelt, arith, asked_of, batch_most, before_read, Begins, Bool, empty_tally, EndsBy, Engine, Err, false, Fed, Fetch, Flights, flights_at, flights_of, FlightSettings, Gathered, IsAtEnd, KeeperState, length, List, Machine, machine_of, most_flown, most_some, Option, OutFailed, Outputs, Outputs-whole, printed, public_of, refl, Result, RevState, RunStop, session_stop, SessionRan, standing, Stmt, Stop, StoreState, subst, sym, Tally, TracedAll, true, ℕ, [], ⊤, ◌++◌, ◌+◌, ◌<◌, ◌∙◌, ◌∷◌, ◌≡◌}
 use Rattle.std.specs.Io.KnownBytes.{Consumes}
 use Rattle.ob_headline.proofs.PromptLemmas.{all_answered, prompt_all}
 use Rattle.ob_headline.proofs.TextLemmas.{rest_of-append, rest_of-cons, rest_of-nil, texts_of-append, texts_of-cons, texts_of-nil}
@@ -9,7 +9,7 @@ use Rattle.ob_shell.proofs.StepLemmas.{PartlyAt-more, last_stopped}
 use Rattle.ob_shell.proofs.PlaceLemmas.{none_free}
 use Rattle.ob_shell.proofs.TookLemmas.{took_whole, traces_all, traces_to}
 use Rattle.ob_shell.proofs.TraceLemmas.{traced_then}
-use Rattle.ob_shell.proofs.WaitLemmas.{answered_but, break_then, ends_end, follow_more, last_idle, none_held, so_idle, so_then, steps_flown, steps_most, steps_tables, tally_end}
+use Rattle.ob_shell.proofs.WaitLemmas.{answered_except, break_then, ends_end, follow_more, last_idle, none_held, so_idle, so_then, steps_flown, steps_most, steps_tables, tally_end}
 use Rattle.ob_shell.specs.Flying.{start_of}
 use Rattle.ob_shell.specs.Running.{SoFar}
 use Rattle.ob_shell.specs.Serving.{HasRead, ended_with}
@@ -57,7 +57,7 @@ so_far_turn {state = state} {w0 = w0} {w2 = w2} {p = p} {batch' = batch'} {r' = 
 -- where all that was whole before the last read is among these texts
 pub ran_broken : {R : Type 0} {state : R → RevState} {Lost : Type 0} {on : Bool} {t0 t2 : Option (List ℕ)} {f0 f2 : Fetch} {gave : ℕ} {l0 l2 w0 w2 : Option (List ℕ)} {m0 m2 : Machine R} (run : RunStop) (piece : List ℕ) (ended : Bool) (texts more : List (List ℕ))
     → Consumes l0 l2 piece → f2.taken ≡ f0.taken + length piece → f2.limit ≡ f0.limit → (ended ≡ true → IsAtEnd l2) → texts_in ended (f0.unread ++ piece) ≡ texts ++ more
-    → (broke : BreaksIn state on w0 w2 t0 t2 Lost texts run m0 m2) → AnsweredBut (public_of broke.middle.engine) (batch_most (public_of m0.engine)) (most_flown m0.flights.settings (public_of m0.engine)) (texts_in false (before_read gave (f0.unread ++ piece))) broke.served
+    → (broke : BreaksIn state on w0 w2 t0 t2 Lost texts run m0 m2) → AnsweredExcept (public_of broke.middle.engine) (batch_most (public_of m0.engine)) (most_flown m0.flights.settings (public_of m0.engine)) (texts_in false (before_read gave (f0.unread ++ piece))) broke.served
     → SessionRan state on f0 f2 l0 l2 gave w0 w2 t0 t2 m0 m2 Lost (Err (session_stop run))
 ran_broken {f2 = f2} run piece ended texts more consumed taken limit at_end parts broke prompt = record {
   piece = piece;
@@ -104,8 +104,8 @@ ran_turn {state = state} {f0 = f0} {f2 = f2} {gave = gave} {p = p} {b = b} {m0 =
     (texts_of-append [] so.passed ((b ∷ []) ++ f2.unread)
     ∙ ap (λ (l : List (List ℕ)). texts_of [] so.passed ++ l) (rw (← so.pending_is) (texts_of-cons p b f2.unread)) ∙ sym (append_assoc (texts_of [] so.passed) (texts_at p b) (texts_of (rest_after p b) f2.unread))))
     whole
-    (subst (λ (two : ℕ × ℕ). AnsweredBut (public_of now.middle.engine) two.0 two.1 (texts_in false (before_read gave (f0.unread ++ all.piece))) (so.so.served ++ now.served)) (λ i. (sym same i, sym flown i))
-    (answered_but m1.flights.settings (public_of m1.engine) (asked_of m1) _ (texts_of [] so.passed) so.so.served so.so.held now.served now.more (texts_at p b) _ waits so.so.spelt so.so.parts now.parts begins
+    (subst (λ (two : ℕ × ℕ). AnsweredExcept (public_of now.middle.engine) two.0 two.1 (texts_in false (before_read gave (f0.unread ++ all.piece))) (so.so.served ++ now.served)) (λ i. (sym same i, sym flown i))
+    (answered_except m1.flights.settings (public_of m1.engine) (asked_of m1) _ (texts_of [] so.passed) so.so.served so.so.held now.served now.more (texts_at p b) _ waits so.so.spelt so.so.parts now.parts begins
     (public_of now.middle.engine) (λ rest spelt all. steps_tables state (standing m1 [] so.so.gathered) now.middle now.served now.answers now.steps rest _ spelt all)))
 
 -- ---- no more is read, and then those that wait are served
@@ -156,8 +156,8 @@ ran_unflushed {state = state} {f0 = f0} {gave = gave} {m0 = m0} {m1 = m1} ends r
     let same = sym (steps_most state m0 (standing m1 [] read.so.gathered) read.so.served read.so.answers read.so.steps) in
     let flown = sym (steps_flown state m0 (standing m1 [] read.so.gathered) read.so.served read.so.answers read.so.steps) in
     ran_broken run read.piece read.ended (read.texts ++ []) read.more read.consumed read.taken read.limit read.at_end (read.parts ∙ ap (λ (l : List (List ℕ)). l ++ read.more) (sym (append-nil read.texts))) (break_then read.so read.traced broke)
-    (subst (λ (two : ℕ × ℕ). AnsweredBut (public_of now.middle.engine) two.0 two.1 (texts_in false (before_read gave (f0.unread ++ read.piece))) (read.so.served ++ now.served)) (λ i. (sym same i, sym flown i))
-    (answered_but m1.flights.settings (public_of m1.engine) (asked_of m1) _ read.texts read.so.served read.so.held now.served now.more [] _ waits read.so.spelt read.so.parts now.parts read.before
+    (subst (λ (two : ℕ × ℕ). AnsweredExcept (public_of now.middle.engine) two.0 two.1 (texts_in false (before_read gave (f0.unread ++ read.piece))) (read.so.served ++ now.served)) (λ i. (sym same i, sym flown i))
+    (answered_except m1.flights.settings (public_of m1.engine) (asked_of m1) _ read.texts read.so.served read.so.held now.served now.more [] _ waits read.so.spelt read.so.parts now.parts read.before
     (public_of now.middle.engine) (λ rest spelt all. steps_tables state (standing m1 [] read.so.gathered) now.middle now.served now.answers now.steps rest _ spelt all)))
 
 -- ---- the words that it begins with

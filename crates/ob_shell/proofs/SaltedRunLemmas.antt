@@ -1,4 +1,4 @@
--- A run that neither keeps nor saves its tables, behind its first line.
+-- A run that neither keeps nor saves its tables, after its first line.
 use Rattle.ob_shell.proofs.Words.{ap, arith, Bool, Config, empty_tally, Err, false, Faults, Fetch, first_public, FirstLine, flagged, FlightSettings, flying, fresh, Halt, IfOk, inl, inr, IsFedBy, IsFresh, KeeperState, KeptEnded, KeyRead, limit_of, List, Ok, Option, OutFailed, outside_of, Plain, Ran, refl, Result, RevState, ServesAlone, Silenced, Some, Stop, StopCause, StoreState, subst, sym, Tally, Traced, true, ℕ, [], ◌++◌, ◌∙◌, ◌≡◌, ◌≤◌}
 use Rattle.ob_headline.specs.KeyLine.{first_line, secret_of}
 use Rattle.ob_headline.specs.SaltedHeadline.{own_keys}

@@ -14,7 +14,7 @@ use Rattle.ob_reopen.proofs.OutlastLemmas.{listed_last, rests_last}
 use Rattle.ob_reopen.proofs.SavedLemmas.{rests_under}
 use Rattle.ob_reopen.specs.Keepers.{IsMark}
 use Rattle.ob_reopen.specs.Reopened.{opening_script}
-use Rattle.ob_reopen.specs.Resting.{IsNeeded, Rests}
+use Rattle.ob_reopen.specs.Resting.{IsNeeded, IsAtRest}
 use Rattle.ob_reopen.specs.Saved.{RestsBy, reopening_keys, salted_of, salted_regions}
 use Rattle.ob_reopen.specs.declared.fault.OpenErr.{OpenErr}
 use Rattle.ob_reopen.specs.declared.listed.Listed.{Listed}
@@ -83,7 +83,7 @@ module _ {R : Type 0} (state : R → RevState) (config : Config) (secret salt : 
   }
 
 -- ---- an engine that was opened
--- the regions of the tables that a closing lists, and its own, are behind those that the run makes
+-- the regions of the tables that a closing lists, and its own, are after those that the run makes
 before_each : (closing : Closing) (listed : List Listed) → ((i : ℕ) (t : Listed) → slice_get listed i ≡ Some t → t.table.region < closing.region) → (q : ℕ) → closing.region < q → AreBefore q (map salted_of listed)
 before_each closing [] each q above = tt
 before_each closing (t ∷ ts) each q above =
@@ -114,18 +114,18 @@ module _ {R : Type 0} (state : R → RevState) (config : Config) (secret salt : 
   unlied nolie = sym sweeps.lie ∙ nolie
 
   -- what rests under the secret does so under the keys that the run has
-  under : IsTrue s0.tells → s1.lie ≡ None → (tables : Tables) → RestsBy secret closed closing s0.kept tables → Rests keys closing s0.kept tables
+  under : IsTrue s0.tells → s1.lie ≡ None → (tables : Tables) → RestsBy secret closed closing s0.kept tables → IsAtRest keys closing s0.kept tables
   under tells nolie tables rests =
       let same : reopening_keys secret salt closed closing rests.rests.listed ≡ keys = ap (reopening_keys secret salt closed closing) (reopened_by.lists tells nolie tables rests) ∙ sym reopened_by.keyed in
-      subst (λ (k : KeySet). Rests k closing s0.kept tables) same (rests_under secret salt closed closing s0.kept tables rests)
+      subst (λ (k : KeySet). IsAtRest k closing s0.kept tables) same (rests_under secret salt closed closing s0.kept tables rests)
 
   -- and the other way round
-  rested_by : (tables : Tables) → Rests keys closing s0.kept tables → RestsBy secret closed closing s0.kept tables
+  rested_by : (tables : Tables) → IsAtRest keys closing s0.kept tables → RestsBy secret closed closing s0.kept tables
   rested_by tables rests = record {
     keys = own;
     of = salted_of_secret secret salt (salted_regions closed closing engine.listed);
     own = ap (λ (p : Pair). p.salt) (sym (closing_pair secret salt closed closing engine.listed));
-    rests = subst (λ (k : KeySet). Rests k closing s0.kept tables) reopened_by.keyed rests;
+    rests = subst (λ (k : KeySet). IsAtRest k closing s0.kept tables) reopened_by.keyed rests;
     ones = λ q needed. tt;
   }
 

@@ -1,4 +1,4 @@
--- A run whose tables are saved, behind its first line.
+-- A run whose tables are saved, after its first line.
 use Rattle.ob_shell.proofs.Words.{ap, arith, Base, BeginsToSave, Bool, Config, empty_tally, Engine, Err, false, Faults, faults_of, Fetch, first_public, FirstLine, flagged, Flights, flights_at, FlightSettings, flying, Halt, high_of, IfOk, inr, IsFedBy, KeeperState, KeptEnded, KeyRead, KeySet, limit_of, List, machine_of, no_flights, None, Ok, Option, OutFailed, outside_of, Plain, Public, public_of, Ran, refl, RestsOn, Result, RevState, rows_of, ServesAlone, SessionRan, Silenced, Some, Stop, StopCause, StoreState, subst, sym, Tally, Traced, true, ℕ, [], ◌++◌, ◌∙◌, ◌≡◌, ◌≤◌}
 use Rattle.ob_headline.specs.KeyLine.{after_line, first_line, secret_of}
 use Rattle.ob_shell.proofs.CountLemmas.{same_cause}

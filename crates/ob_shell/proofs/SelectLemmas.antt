@@ -1,5 +1,5 @@
 -- A SELECT that may fly: nothing is gathered with it, and it leaves tables and draws as they are.
-use Rattle.ob_shell.proofs.Words.{access_public, after, ap, arith, batch_most, begins_batch, Bool, Draws, early_refusal, End, false, Gathering, headings, headings_of, How, if◌then◌else◌, inserts_into, is_full_now, is_index, is_late, is_some, Joined, limits_of, List, may_fly, nat_le, nat_lt, None, Option, option_map, option_map_or, Public, refl, Refusal, Seen, seen_or_cut, SelectsFromOne, Session, Skeleton, skeleton, Some, Static, Stmt, sym, Tables, true, ℕ, ◌&&◌, ◌+◌, ◌∙◌, ◌≡◌}
+use Rattle.ob_shell.proofs.Words.{access_public, after, ap, arith, batch_most, begins_batch, Bool, Draws, early_refusal, End, false, Gathering, headings, headings_of, How, if◌then◌else◌, inserts_into, is_full_now, is_index, is_late, is_some, Batched, limits_of, List, may_fly, nat_le, nat_lt, None, Option, option_map, option_map_or, Public, refl, Refusal, Seen, seen_or_cut, SelectsFromOne, Session, Skeleton, skeleton, Some, Static, Stmt, sym, Tables, true, ℕ, ◌&&◌, ◌+◌, ◌∙◌, ◌≡◌}
 use Rattle.std.specs.Prelude.{not, bytes_eq}
 use Rattle.std.specs.Option.{is_none}
 use Rattle.ob_base.specs.declared.skeleton.Skeleton.TheVariants as K
@@ -68,7 +68,7 @@ drawn_flat p other fly = absurd (cc fly)
 
 draws_flat : (p : Public) (sk : Skeleton) (end : End) → may_fly p sk ≡ true → draws_taken p sk end ≡ 0
 draws_flat p sk Static fly = refl
-draws_flat p sk Joined fly = refl
+draws_flat p sk Batched fly = refl
 draws_flat p sk other fly = drawn_flat p sk fly
 
 leaf_by : (p : Public) (sk : Skeleton) (leaf : Option ℕ) (end : End) → may_fly p sk ≡ true → HoldsLeaf p sk leaf end → leaf ≡ None

@@ -1,5 +1,5 @@
 -- What the engine was given and what it left.
-use Rattle.ob_shell.proofs.Words.{AfterCount, Agrees, ap, append-nil, Appends, AreDraws, arith, asked_of, begins_batch, Bool, by_fault, closing_line, Cut, Does, Draws, End, Err, Event, events_text, false, faults_of, Gathered, gathered_then, HasCause, held_headings, if◌then◌else◌, inl, inr, is_err, is_fault, Joined, List, Machine, may_fly, most_some, next, None, Ok, Option, option_map, Outcome, OutFailed, Outputs, Outputs-fault, Outputs-whole, PrintsUntil, Public, public_of, refl, Refused, Result, RevState, RunStop, Seen, seen_of, session_stop, Silenced, Skeleton, skeleton, Spells, standing, Static, Step, Stmt, StopCause, subst, sym, Tables, true, Whole, ℕ, [], ◌++◌, ◌∙◌, ◌∷◌, ◌≡◌, ◌≤◌}
+use Rattle.ob_shell.proofs.Words.{AfterCount, Agrees, ap, append-nil, Appends, AreDraws, arith, asked_of, begins_batch, Bool, by_fault, closing_line, Cut, Does, Draws, End, Err, Event, events_text, false, faults_of, Gathered, gathered_then, HasCause, held_headings, if◌then◌else◌, inl, inr, is_err, is_fault, Batched, List, Machine, may_fly, most_some, next, None, Ok, Option, option_map, Outcome, OutFailed, Outputs, Outputs-fault, Outputs-whole, PrintsUntil, Public, public_of, refl, Refused, Result, RevState, RunStop, Seen, seen_of, session_stop, Silenced, Skeleton, skeleton, Spells, standing, Static, Step, Stmt, StopCause, subst, sym, Tables, true, Whole, ℕ, [], ◌++◌, ◌∙◌, ◌∷◌, ◌≡◌, ◌≤◌}
 use Rattle.std.specs.Prelude.{IsErr}
 use Rattle.ob_base.specs.declared.refusal.Refusal.TheVariants.{Syntax}
 use Rattle.ob_base.specs.declared.skeleton.Skeleton.TheVariants.{Create as CreateSkeleton, Delete as DeleteSkeleton, Drop as DropSkeleton, Groups, Insert as InsertSkeleton, Rows, Update as UpdateSkeleton}
@@ -21,7 +21,7 @@ module _ {R E : Type 0} (state : R → RevState) (grew cut : E → E → List Ev
   abbrev pub Called : Result Outcome RunStop → Type 0
   Called result = Ran state grew cut faults stmt result m0.engine m0.store m1.engine m1.store out_old out_new m0.keeper m1.keeper
 
-  -- before it, and behind it
+  -- before it, and after it
   abbrev pub start : Machine R
   start = standing m0 [] g
 
@@ -195,12 +195,12 @@ select_tables p outline seen flies is = ap (λ (x : Public). x.tables) is ∙ go
     go (Rows source columns) may Static = refl
     go (Rows source columns) may Whole = refl
     go (Rows source columns) may AfterCount = refl
-    go (Rows source columns) may Joined = refl
+    go (Rows source columns) may Batched = refl
     go (Rows source columns) may (Cut n) = refl
     go (Groups table columns key) may Static = refl
     go (Groups table columns key) may Whole = refl
     go (Groups table columns key) may AfterCount = refl
-    go (Groups table columns key) may Joined = refl
+    go (Groups table columns key) may Batched = refl
     go (Groups table columns key) may (Cut n) = refl
     go (CreateSkeleton table columns n shape) may ended = absurd (cc may)
     go (InsertSkeleton table columns) may ended = absurd (cc may)

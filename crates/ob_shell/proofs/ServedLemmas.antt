@@ -1,4 +1,4 @@
--- How a session ends behind its reading, once those that waited were served.
+-- How a session ends after its reading, once those that waited were served.
 use Rattle.ob_shell.proofs.Words.{ap, arith, asked_of, batch_most, begins, Bool, Err, false, Faults, faults_of, Fetch, FlightSettings, inl, inr, length, List, Machine, most_flown, None, Ok, Option, option_map_or, Public, public_of, refl, RevState, Rises, RunStop, ServesAlone, session_stop, Silenced, Some, standing, Stmt, Stop, stop_of, StopCause, subst, sym, Tally, true, ℕ, [], ◌+◌, ◌-◌, ◌∙◌, ◌∷◌, ◌≡◌, ◌≢◌, ◌⊎◌}
 use Rattle.std.specs.Prelude.{max, min}
 use Rattle.ob_base.specs.declared.refusal.Stop.TheVariants as Stops
@@ -26,13 +26,13 @@ pub read_later : (Alone : Type 0) (left : Option Stop) (old new : Faults) → St
 read_later Alone None old new cause = inl cause.source
 read_later Alone (Some stop) old new cause = source_later (Unit {0}) Alone stop old new cause
 
--- behind either a line may be written
+-- after either a line may be written
 pub unsilenced : (left : Option Stop) (old new : Faults) → Silenced (is_quiet (read_end (Ok left))) old new → Silenced false old new
 unsilenced None old new told = told
 unsilenced (Some stop) old new told = told
 
 -- ---- the counts
--- the reading's stop, behind which those that waited were served
+-- the reading's stop, after which those that waited were served
 pub stop_stays : (T Alone : Type 0) (stop : Stop) (s0 s1 : ℕ) (old mid new : ℕ × ℕ) → new.0 ≡ mid.0 → new.1 ≡ mid.1 → StopCause {T = T} Alone (faults_of s0 old.0 old.1) (faults_of s1 mid.0 mid.1) (Err stop) → StopCause {T = T} Alone (faults_of s0 old.0 old.1) (faults_of s1 new.0 new.1) (Err stop)
 stop_stays T Alone stop s0 s1 old mid new out trace cause =
     let same : faults_of s1 mid.0 mid.1 ≡ faults_of s1 new.0 new.1 = λ i. faults_of s1 (sym out i) (sym trace i) in

@@ -1,18 +1,18 @@
--- A session that goes on from a base, and the closing behind it.
-use Rattle.ob_shell.proofs.Words.{Access, Agrees, All, Answer, AnsweredBut, ap, append-nil, append_assoc, Appends-nil, AreByRegion, arith, asked_of, Base, batch_most, before_read, Begins, Bool, cases_lt, CloseErr, Closing, Config, cut_off, Draws, drop, earlier, empty_tally, Ending, EndsBy, EndsUntampered, Engine, engine_keys, engine_start, Err, false, Fetch, first_draws, flagged, Flights, flights_at, FromEach, has_refused, high_of, IfOk, indexes_of, inl, inr, IsAtEnd, IsHonest, IsTrue, KeeperState, KeptEnding, KeySet, LastPart, length, Lie, List, LosesSome, Machine, machine_of, Mark, most_flown, most_some, None, Ok, opened_from, Option, Outputs-whole, pair_of, Plain, Public, public_of, Read, refl, Represents, RestsOn, Result, RevState, Rises, RisesBy, rows_of, Seat, Session, session_of, session_stop, SessionRan, Since, skeleton, Some, standing, Start, statements, Stop, StoreState, Story, subst, sym, Tables, take, Tally, Traced, true, World, world_of, ℕ, [], ◌++◌, ◌+◌, ◌<◌, ◌^◌, ◌∙◌, ◌∷◌, ◌≡◌, ◌≤◌, ◌⊎◌}
+-- A session that goes on from a base, and the closing after it.
+use Rattle.ob_shell.proofs.Words.{Access, Agrees, All, Answer, AnsweredExcept, ap, append-nil, append_assoc, Appends-nil, AreByRegion, arith, asked_of, Base, batch_most, before_read, Begins, Bool, cases_lt, CloseErr, Closing, Config, cut_off, Draws, drop, earlier, empty_tally, Ending, EndsBy, EndsUntampered, Engine, engine_keys, engine_start, Err, false, Fetch, first_draws, flagged, Flights, flights_at, FromEach, has_refused, high_of, IfOk, indexes_of, inl, inr, IsAtEnd, IsHonest, IsTrue, KeeperState, KeptEnding, KeySet, LastPart, length, FalseRead, List, LosesSome, Machine, machine_of, Mark, most_flown, most_some, None, Ok, opened_from, Option, Outputs-whole, pair_of, Plain, Public, public_of, Read, refl, Represents, RestsOn, Result, RevState, Rises, RisesBy, rows_of, Position, Session, session_of, session_stop, SessionRan, Since, skeleton, Some, standing, Start, statements, Stop, StoreState, Story, subst, sym, Tables, take, Tally, Traced, true, World, world_of, ℕ, [], ◌++◌, ◌+◌, ◌<◌, ◌^◌, ◌∙◌, ◌∷◌, ◌≡◌, ◌≤◌, ◌⊎◌}
 use Rattle.std.specs.Prelude.{MatchBool}
 use Rattle.std.proofs.KnownBytes.{Consumes-nil}
 use Rattle.ob_base.specs.declared.refusal.Stop.TheVariants.{Tampered, StoreFault, KeeperFault}
 use Rattle.ob_tables.specs.Closing.{ClosesEngine, closing_script, next_closing}
 use Rattle.ob_reopen.specs.Closed.{IsClosedAs, StaysInUse, is_used_up}
-use Rattle.ob_reopen.specs.Resting.{AcceptsClosings, Rests, by_name}
+use Rattle.ob_reopen.specs.Resting.{AcceptsClosings, IsAtRest, by_name}
 use Rattle.ob_select.specs.Selecting.{AcceptsRows}
 use Rattle.ob_headline.proofs.BaseLemmas.{from_each}
 use Rattle.ob_headline.proofs.PromptLemmas.{all_answered, prompt_all}
 use Rattle.ob_headline.proofs.TextLemmas.{rest_of-nil, texts_of-nil}
 use Rattle.ob_headline.specs.Bases.{Opened, drawing, session_at, start}
 use Rattle.ob_headline.specs.Disturbed.{MeantUntil, meant_entries, meant_trace}
-use Rattle.ob_headline.specs.Flights.{AreEntries, AreGathered, EndedBy, Entered, GoesOn, after_entries, most_of, public_after, public_whole, seats, seats_of, trace_of, whole_of, words_of}
+use Rattle.ob_headline.specs.Flights.{AreEntries, AreGathered, EndedBy, Entered, GoesOn, after_entries, most_of, public_after, public_whole, positions, positions_of, trace_of, whole_of, words_of}
 use Rattle.ob_headline.specs.FullStash.{ReadsFullStash}
 use Rattle.ob_headline.specs.Failures.{FailsBeside}
 use Rattle.ob_headline.specs.Leaves.{AreDrawn}
@@ -20,7 +20,7 @@ use Rattle.ob_headline.specs.Keeping.{EndsWith, Writes, closing_behind, last_scr
 use Rattle.ob_headline.specs.KeptHeadline.{ClosesTables, PassesBoth}
 use Rattle.ob_headline.specs.Texts.{texts_in}
 use Rattle.ob_headline.specs.Words.{rows_in}
-use Rattle.ob_headline.specs.Accesses.{AreSeen, LeavesAloft, StopsWithin, cut_aloft}
+use Rattle.ob_headline.specs.Accesses.{AreSeen, LeavesInFlight, StopsWithin, cut_in_flight}
 use Rattle.ob_headline.specs.Meaning.{AnswersFrom, session_after}
 use Rattle.ob_headline.specs.SavedHeadline.{CountsKeeper, LeavesSaved}
 use Rattle.ob_headline.specs.Sealing.{IsSealed, IsSealedAt, IsWriteTo, PassesFrom, PassesHere, PassesRows, PassesSaved, PassesWith, SealsOwn}
@@ -30,7 +30,7 @@ use Rattle.ob_mean.specs.Replay.{Broken}
 use Rattle.ob_script.specs.Flights.{trace_in}
 use Rattle.ob_script.specs.Trace.{Served}
 use Rattle.ob_seal.specs.Sealed.{sealed}
-use Rattle.ob_shell.proofs.CalmLemmas.{MeetsChange, last_met, steps_calm}
+use Rattle.ob_shell.proofs.UntamperedLemmas.{MeetsChange, last_met, steps_calm}
 use Rattle.ob_shell.proofs.LastingLemmas.{HasSizes, steps_sizes, last_rows, steps_sealed, last_sealed, steps_tell, none_sealed}
 use Rattle.ob_shell.proofs.LeaveCounts.{session_counts}
 use Rattle.ob_shell.proofs.LeaveSession.{session_leaves}
@@ -48,7 +48,7 @@ use Rattle.ob_shell.proofs.EarlyFlights.{flies_early}
 use Rattle.ob_shell.proofs.HowLemmas.{course_of, met_trace}
 use Rattle.ob_shell.proofs.PromptMore.{prompt_more, whole_before}
 use Rattle.ob_shell.proofs.RunLemmas.{run_ends}
-use Rattle.ob_shell.proofs.WalkEntries.{most_at, seats_at}
+use Rattle.ob_shell.proofs.WalkEntries.{most_at, positions_at}
 use Rattle.ob_shell.proofs.WalkLast.{last_walk}
 use Rattle.ob_shell.proofs.WalkLemmas.{EndsWhole, Walked}
 use Rattle.ob_shell.proofs.WalkWhole.{walked}
@@ -78,15 +78,15 @@ sealed_at good v first s t region place block keys start from same at = record {
 }
 
 -- a changed block that doesn't fit ends the run at its read
-ends_there : (region place : ℕ) (w : World) (lie : Lie) → w.store.lie ≡ Some lie → EndsAt region place w
+ends_there : (region place : ℕ) (w : World) (lie : FalseRead) → w.store.lie ≡ Some lie → EndsAt region place w
     → (RanEnding (Err (Tampered region place)) ≡ RanEnding (Err (Tampered lie.region lie.place))) × (w.store.asked ≡ lie.before ++ Read lie.region lie.place ∷ [])
 ends_there region place w lie is ends =
     let same : ends.lie ≡ lie = cc (sym ends.told ∙ is) in (
-      (λ i. RanEnding (Err (Tampered ((sym ends.at_region ∙ ap (λ (l : Lie). l.region) same) i) ((sym ends.at_place ∙ ap (λ (l : Lie). l.place) same) i)))),
-      ends.asked ∙ ap (λ (l : Lie). l.before ++ Read l.region l.place ∷ []) same,
+      (λ i. RanEnding (Err (Tampered ((sym ends.at_region ∙ ap (λ (l : FalseRead). l.region) same) i) ((sym ends.at_place ∙ ap (λ (l : FalseRead). l.place) same) i)))),
+      ends.asked ∙ ap (λ (l : FalseRead). l.before ++ Read l.region l.place ∷ []) same,
     )
 
-meets : (result : Result Bool Stop) (w : World) (lie : Lie) → MeetsChange result w → w.store.lie ≡ Some lie → ¬ TagFits w.vault.keys w.vault.start lie
+meets : (result : Result Bool Stop) (w : World) (lie : FalseRead) → MeetsChange result w → w.store.lie ≡ Some lie → ¬ TagFits w.vault.keys w.vault.start lie
     → (RanEnding result ≡ RanEnding (Err (Tampered lie.region lie.place))) × (w.store.asked ≡ lie.before ++ Read lie.region lie.place ∷ [])
 meets (Err (Tampered region place)) w lie (inl calm) is unfit = absurd (unfit (calm.calm lie is))
 meets (Err (Tampered region place)) w lie (inr ends) is unfit = ends_there region place w lie is ends
@@ -144,7 +144,7 @@ writes_by {e = e} {s = s} {t = t} (Err error) closes = (go (is_used_up (next_clo
   go true is = absurd (closes.gives_up is)
   go false is = is
 
-none_lies : (o : Option Lie) (s t : StoreState) → s.lie ≡ o → Later s t → t.lie ≡ None → s.lie ≡ None
+none_lies : (o : Option FalseRead) (s t : StoreState) → s.lie ≡ o → Later s t → t.lie ≡ None → s.lie ≡ None
 none_lies None s t is later none = is
 none_lies (Some lie) s t is later none = absurd (cc (later.lie lie is, none))
 
@@ -175,8 +175,8 @@ module _ {R : Type 0} {state : R → RevState} {Lost : Type 0} (base : Base) (co
   walk = walked state (flies_early state) (RanEnding result) ran.middle m2 final.held final.rest final.kept final.left final.walk m0 ran.served ran.answers ran.steps
 
   -- by what the statements go
-  seats_are : seats_at m0 walk.entries ≡ seats_of base walk.entries
-  seats_are = λ i. seats (words_of base) 0 (on.public i) (on.count i) walk.entries
+  positions_are : positions_at m0 walk.entries ≡ positions_of base walk.entries
+  positions_are = λ i. positions (words_of base) 0 (on.public i) (on.count i) walk.entries
 
   most_is : most_at m0 ≡ most_of base
   most_is = λ i. most_flown base.flight (on.public i)
@@ -198,7 +198,7 @@ module _ {R : Type 0} {state : R → RevState} {Lost : Type 0} (base : Base) (co
   start_is : engine_start last ≡ base.start
   start_is = walk.start ∙ on.start
 
-  fits_here : (lie : Lie) → TagFits last.vault.keys (engine_start last) lie → TagFits keys base.start lie
+  fits_here : (lie : FalseRead) → TagFits last.vault.keys (engine_start last) lie → TagFits keys base.start lie
   fits_here lie fits = subst (λ (k : KeySet). TagFits k base.start lie) keys_are (subst (λ (x : Start). TagFits last.vault.keys x lie) start_is fits)
 
   met : MeetsChange result (world_of state last s1)
@@ -270,7 +270,7 @@ module _ {R : Type 0} {state : R → RevState} {Lost : Type 0} (base : Base) (co
   here tables = λ i. record { public = on.public i; tables = tables; asked = on.count i; draws = d0 }
 
   -- the leaves that are read
-  reads : Reads d0 (indexes_of first) (given_none d0 (indexes_of first) on.unindexed) (seats_at m0 walk.entries) all
+  reads : Reads d0 (indexes_of first) (given_none d0 (indexes_of first) on.unindexed) (positions_at m0 walk.entries) all
   reads = walk.drawn d0 on.drawn (given_none d0 (indexes_of first) on.unindexed)
 
   -- what became of the texts
@@ -290,16 +290,16 @@ module _ {R : Type 0} {state : R → RevState} {Lost : Type 0} (base : Base) (co
   entered_by = record {
     served = walk.entered.served;
     entries = subst (λ (n : ℕ). AreEntries n (length walk.seen) walk.entries) most_is walk.entered.are;
-    gathered = subst (λ (vs : List Seat). AreGathered (most_of base) 0 vs walk.spelt) seats_are (subst (λ (n : ℕ). AreGathered n 0 (seats_at m0 walk.entries) walk.spelt) most_is walk.entered.gathers);
-    ended = subst (λ (vs : List Seat). All (λ (v : Seat). EndedBy v.left v) (take (length walk.seen) vs)) seats_are walk.entered.ended;
+    gathered = subst (λ (vs : List Position). AreGathered (most_of base) 0 vs walk.spelt) positions_are (subst (λ (n : ℕ). AreGathered n 0 (positions_at m0 walk.entries) walk.spelt) most_is walk.entered.gathers);
+    ended = subst (λ (vs : List Position). All (λ (v : Position). EndedBy v.left v) (take (length walk.seen) vs)) positions_are walk.entered.ended;
   }
 
   -- so they are answered by their meaning
-  meant_by : (tables : Tables) (broken : Broken) → AnswersFrom (RanEnding result) (seats_at m0 walk.entries) (session_of m0 d0 tables) walk.spelt broken story.answers all story.part
-      → AnswersFrom (RanEnding result) (seats_of base walk.entries) (drawing keys (session_at base tables)) walk.spelt broken story.answers all story.part
+  meant_by : (tables : Tables) (broken : Broken) → AnswersFrom (RanEnding result) (positions_at m0 walk.entries) (session_of m0 d0 tables) walk.spelt broken story.answers all story.part
+      → AnswersFrom (RanEnding result) (positions_of base walk.entries) (drawing keys (session_at base tables)) walk.spelt broken story.answers all story.part
   meant_by tables broken meant =
-      subst (λ (vs : List Seat). AnswersFrom (RanEnding result) vs (drawing keys (session_at base tables)) walk.spelt broken story.answers all story.part) seats_are
-      (subst (λ (x : Session). AnswersFrom (RanEnding result) (seats_at m0 walk.entries) x walk.spelt broken story.answers all story.part) (here tables) meant)
+      subst (λ (vs : List Position). AnswersFrom (RanEnding result) vs (drawing keys (session_at base tables)) walk.spelt broken story.answers all story.part) positions_are
+      (subst (λ (x : Session). AnswersFrom (RanEnding result) (positions_at m0 walk.entries) x walk.spelt broken story.answers all story.part) (here tables) meant)
 
   pub carried_by : Carried tr base keys (Some key) s0 s1 high story (RanEnding result)
   carried_by = record {
@@ -309,20 +309,20 @@ module _ {R : Type 0} {state : R → RevState} {Lost : Type 0} (base : Base) (co
       entered = entered_by;
       begun = walk.in_access;
       each_seen = walk.each_seen;
-      lawful = subst (λ (vs : List Seat). AreSeen (StopsWithin (RanEnding result) Failed (ReadsFullStash keys base.start s1)) vs None walk.spelt story.answers all) seats_are
-          (subst (λ (k : KeySet). AreSeen (StopsWithin (RanEnding result) Failed (ReadsFullStash k base.start s1)) (seats_at m0 walk.entries) None walk.spelt story.answers all) keys_are
-          (subst (λ (x : Start). AreSeen (StopsWithin (RanEnding result) Failed (ReadsFullStash last.vault.keys x s1)) (seats_at m0 walk.entries) None walk.spelt story.answers all) start_is
+      lawful = subst (λ (vs : List Position). AreSeen (StopsWithin (RanEnding result) Failed (ReadsFullStash keys base.start s1)) vs None walk.spelt story.answers all) positions_are
+          (subst (λ (k : KeySet). AreSeen (StopsWithin (RanEnding result) Failed (ReadsFullStash k base.start s1)) (positions_at m0 walk.entries) None walk.spelt story.answers all) keys_are
+          (subst (λ (x : Start). AreSeen (StopsWithin (RanEnding result) Failed (ReadsFullStash last.vault.keys x s1)) (positions_at m0 walk.entries) None walk.spelt story.answers all) start_is
           (walk.lawful (cut_off walk.seen + 1) s0.faults (λ beside. beside) d0 on.drawn (given_none d0 (indexes_of first) on.unindexed))));
-      aloft = subst (λ (vs : List Seat). LeavesAloft (RanEnding result) s1.asked (drop (length walk.seen) vs) (statements (drop (length story.served) walk.spelt)) walk.last) seats_are walk.aloft;
-      drawn = record { numbers = reads.numbers; are = subst (λ (vs : List Seat). AreDrawn d0.draw vs all reads.numbers) seats_are reads.are; apart = reads.apart };
+      aloft = subst (λ (vs : List Position). LeavesInFlight (RanEnding result) s1.asked (drop (length walk.seen) vs) (statements (drop (length story.served) walk.spelt)) walk.last) positions_are walk.aloft;
+      drawn = record { numbers = reads.numbers; are = subst (λ (vs : List Position). AreDrawn d0.draw vs all reads.numbers) positions_are reads.are; apart = reads.apart };
       asked = walk.asked ∙ (λ i. on.asked i ++ trace_in (words_of base) 0 (on.public i) walk.entries);
       failed = λ alone. walk.failed (ap (λ (p : Public). p.batch) on.public ∙ alone);
-      cut = subst (λ (vs : List Seat). RisesBy (cut_off walk.seen + cut_aloft (drop (length walk.seen) vs) walk.last) s0.faults s1.faults) seats_are walk.cuts;
+      cut = subst (λ (vs : List Position). RisesBy (cut_off walk.seen + cut_in_flight (drop (length walk.seen) vs) walk.last) s0.faults s1.faults) positions_are walk.cuts;
       unfailed = walk.unfailed;
     };
     traced_whole = ran.traced.whole (trace_of base (whole_of (length walk.seen) walk.entries)) (walk.passed ∙ ap (λ (p : Public). s0.asked ++ trace_in (words_of base) 0 p (whole_of (length walk.seen) walk.entries)) on.public);
     answers = record {
-      meant = λ undeceived. from_each base (λ x. Represents state first s0 x.tables) (λ x. (broken : Broken) × AnswersFrom (RanEnding result) (seats_of base walk.entries) (drawing keys x) walk.spelt broken story.answers all story.part)
+      meant = λ undeceived. from_each base (λ x. Represents state first s0 x.tables) (λ x. (broken : Broken) × AnswersFrom (RanEnding result) (positions_of base walk.entries) (drawing keys x) walk.spelt broken story.answers all story.part)
           (λ tables held.
           let from = walk.meant d0 on.drawn undeceived.tells on.calm (record { unfit = λ lie is fits. undeceived.unfit lie is (fits_here lie fits) }) tables (holds d0 tables held) in
           (from.broken, meant_by tables from.broken from.meant)) on.held;
@@ -334,7 +334,7 @@ module _ {R : Type 0} {state : R → RevState} {Lost : Type 0} (base : Base) (co
           let joined : s0.asked ++ met_trace (most_at m0) (words_of base) None (session_of m0 d0 []) walk.spelt ≡ meant_trace base keys walk.spelt =
           λ i. is.unasked i ++ trace_in (words_of base) 0 (is.here i).public (meant_entries (most_flown base.flight (on.public i)) (words_of base) (course_of (is.here i) None) walk.spelt) in
           record {
-            meant = subst (λ (vs : List Seat). MeantUntil n None vs (drawing keys (start base.settings)) walk.spelt story.answers all) seats_are (subst (λ (s : Session). MeantUntil n None (seats_at m0 walk.entries) s walk.spelt story.answers all) is.here from.meant);
+            meant = subst (λ (vs : List Position). MeantUntil n None vs (drawing keys (start base.settings)) walk.spelt story.answers all) positions_are (subst (λ (s : Session). MeantUntil n None (positions_at m0 walk.entries) s walk.spelt story.answers all) is.here from.meant);
             begins = subst (λ (l : List Access). Begins (take n s1.asked) l) joined from.begins;
             quiet = λ le. from.quiet (subst (λ (l : List Access). length l ≤ n) (sym joined) le);
           };
@@ -365,7 +365,7 @@ module _ {R : Type 0} {state : R → RevState} {Lost : Type 0} (base : Base) (co
         sym save_is ∙ last_keeper state ran.middle m2 ran.more ran.part (subst (λ (x : Result Bool Stop). LastPart state ran.middle m2 ran.more ran.part x) stopped ran.last);
   }
 
-  -- ---- the engine is closed behind a session that came to its end
+  -- ---- the engine is closed after a session that came to its end
   last_on : (tally : Tally) → told ≡ Ok tally → m2 ≡ ran.middle
   last_on tally is = (subst (λ (r : Result Tally Stop). LastPart state ran.middle m2 ran.more ran.part (flagged r)) is ran.last).machine
 
@@ -385,23 +385,23 @@ module _ {R : Type 0} {state : R → RevState} {Lost : Type 0} (base : Base) (co
     abbrev closing : Closing
     closing = next_closing last s1
 
-    fits_last : (lie : Lie) → s2.lie ≡ Some lie → TagFits keys base.start lie
+    fits_last : (lie : FalseRead) → s2.lie ≡ Some lie → TagFits keys base.start lie
     fits_last lie told_it = fits_here lie ((closes.calm (subst (λ (x : Result Bool Stop). MeetsChange x (world_of state last s1)) (ap flagged is) met)).calm lie told_it)
 
     rests_last : (tables : Tables) → IsHonest s0 s2 → is_used_up closing ≡ false → (mark : Mark) → r ≡ Ok mark → Represents state first s0 tables
-        → (broken : Broken) × AnswersFrom (RanEnding (Ok (has_refused tally))) (seats_of base walk.entries) (drawing keys (session_at base tables)) walk.spelt broken story.answers all story.part
-        × Rests keys closing s2.kept (by_name (session_after (seats_of base walk.entries) (drawing keys (session_at base tables)) walk.spelt broken).tables)
+        → (broken : Broken) × AnswersFrom (RanEnding (Ok (has_refused tally))) (positions_of base walk.entries) (drawing keys (session_at base tables)) walk.spelt broken story.answers all story.part
+        × IsAtRest keys closing s2.kept (by_name (session_after (positions_of base walk.entries) (drawing keys (session_at base tables)) walk.spelt broken).tables)
     rests_last tables honest left_over mark closed held =
         let none : s1.lie ≡ None = none_lies s1.lie s1 s2 refl closes.later honest.no_lie in
         let from_it = walk.meant d0 on.drawn honest.tells on.calm (record { unfit = λ lie it. absurd (cc (none, it)) }) tables (holds d0 tables held) in
         let whole = subst (λ (e : Ending). EndsWhole e) (sym (ending_is tally is)) tt in
-        let tables_after = (session_after (seats_at m0 walk.entries) (session_of m0 d0 tables) walk.spelt from_it.broken).tables in
+        let tables_after = (session_after (positions_at m0 walk.entries) (session_of m0 d0 tables) walk.spelt from_it.broken).tables in
         let tells : IsTrue s1.tells = subst (λ (b : Bool). IsTrue b) (sym lasting.tells) honest.tells in
-        let rest = subst (λ (x : Result Mark CloseErr). IfOk x (λ m. Rests (engine_keys last) closing s2.kept (by_name tables_after))) closed (closes.told tells left_over tables_after (from_it.behind.whole whole)) in (
+        let rest = subst (λ (x : Result Mark CloseErr). IfOk x (λ m. IsAtRest (engine_keys last) closing s2.kept (by_name tables_after))) closed (closes.told tells left_over tables_after (from_it.behind.whole whole)) in (
           from_it.broken,
-          subst (λ (e : Ending). AnswersFrom e (seats_of base walk.entries) (drawing keys (session_at base tables)) walk.spelt from_it.broken story.answers all story.part) (ending_is tally is) (meant_by tables from_it.broken from_it.meant),
-          subst (λ (k : KeySet). Rests k closing s2.kept (by_name (session_after (seats_of base walk.entries) (drawing keys (session_at base tables)) walk.spelt from_it.broken).tables)) keys_are
-              (subst (λ (ts : Tables). Rests (engine_keys last) closing s2.kept (by_name ts)) (λ i. (session_after (seats_are i) (here tables i) walk.spelt from_it.broken).tables) rest),
+          subst (λ (e : Ending). AnswersFrom e (positions_of base walk.entries) (drawing keys (session_at base tables)) walk.spelt from_it.broken story.answers all story.part) (ending_is tally is) (meant_by tables from_it.broken from_it.meant),
+          subst (λ (k : KeySet). IsAtRest k closing s2.kept (by_name (session_after (positions_of base walk.entries) (drawing keys (session_at base tables)) walk.spelt from_it.broken).tables)) keys_are
+              (subst (λ (ts : Tables). IsAtRest (engine_keys last) closing s2.kept (by_name ts)) (λ i. (session_after (positions_are i) (here tables i) walk.spelt from_it.broken).tables) rest),
         )
 
     sealed_last : (from : ℕ) → IsTrue s0.tells → ((good : List ℕ → Bool) → PassesBoth base.public.pack good → AllSealed (λ r. good) (from_on from) (world_of state first s0))
@@ -435,8 +435,8 @@ module _ {R : Type 0} {state : R → RevState} {Lost : Type 0} (base : Base) (co
       later = closes.later;
       fits = fits_last;
       rests = λ honest left mark closed. from_each base (λ x. Represents state first s0 x.tables)
-          (λ x. (broken : Broken) × AnswersFrom (RanEnding (Ok (has_refused tally))) (seats_of base walk.entries) (drawing keys x) walk.spelt broken story.answers all story.part
-          × Rests keys closing s2.kept (by_name (session_after (seats_of base walk.entries) (drawing keys x) walk.spelt broken).tables))
+          (λ x. (broken : Broken) × AnswersFrom (RanEnding (Ok (has_refused tally))) (positions_of base walk.entries) (drawing keys x) walk.spelt broken story.answers all story.part
+          × IsAtRest keys closing s2.kept (by_name (session_after (positions_of base walk.entries) (drawing keys x) walk.spelt broken).tables))
           (λ tables held. rests_last tables honest left mark closed held) on.held;
       sealed = λ tells. sealed_last (base.start.region + 1) tells (λ good both. own_sealed good);
       sealed_before = λ tells. from_each base AreSealed (λ x. IsSealed (PassesBoth base.public.pack) keys base.start 0 s0 s2)
@@ -470,10 +470,10 @@ module _ {R : Type 0} {state : R → RevState} {Lost : Type 0} (base : Base) (co
       refl
 
   -- all that had ended were answered
-  pub all_ended : GoesOn (drop (length story.seen) (seats_of base story.entries)) ⊎ LosesSome Lost (RanEnding result)
-  all_ended = subst (λ (vs : List Seat). GoesOn (drop (length walk.seen) vs) ⊎ LosesSome Lost (RanEnding result)) seats_are walk.on
+  pub all_ended : GoesOn (drop (length story.seen) (positions_of base story.entries)) ⊎ LosesSome Lost (RanEnding result)
+  all_ended = subst (λ (vs : List Position). GoesOn (drop (length walk.seen) vs) ⊎ LosesSome Lost (RanEnding result)) positions_are walk.on
 
-  -- what is public behind those of which all were answered
+  -- what is public after those of which all were answered
   pub stands_at : public_of ran.middle.engine ≡ public_whole base story
   stands_at = walk.stands ∙ ap (λ (p : Public). after_entries (words_of base) 0 p (whole_of (length walk.seen) walk.entries)) on.public
 
@@ -512,8 +512,8 @@ module _ {R : Type 0} {state : R → RevState} {Lost : Type 0} (base : Base) (co
     story = story;
     texts = texts_so;
     prompt = prompt_more (public_whole base story) (batch_most base.public) (most_of base) (texts_in false (before_read gave (f0.unread ++ ran.piece))) ran.served final.held
-        (subst (λ (p : Public). AnsweredBut p (batch_most base.public) (most_of base) (texts_in false (before_read gave (f0.unread ++ ran.piece))) ran.served) stands_at
-        (subst (λ (p : Public). AnsweredBut (public_of ran.middle.engine) (batch_most p) (most_flown base.flight p) (texts_in false (before_read gave (f0.unread ++ ran.piece))) ran.served) on.public ran.prompt))
+        (subst (λ (p : Public). AnsweredExcept p (batch_most base.public) (most_of base) (texts_in false (before_read gave (f0.unread ++ ran.piece))) ran.served) stands_at
+        (subst (λ (p : Public). AnsweredExcept (public_of ran.middle.engine) (batch_most p) (most_flown base.flight p) (texts_in false (before_read gave (f0.unread ++ ran.piece))) ran.served) on.public ran.prompt))
         final.rest (whole_before ran.ended gave (f0.unread ++ ran.piece) ((ran.served ++ final.held) ++ final.rest) texts_so);
     carried = carried_by;
     rows = inl (record { first = first; last = last; keeper0 = k0; keeper1 = k1; flights0 = flights_at base.flight; flights1 = left; ran = ran; counts = opened });

@@ -1,5 +1,5 @@
 -- What the engine asks of a statement is a first part of all that is asked of it.
-use Rattle.ob_shell.proofs.Words.{Access, AfterCount, Agrees, ap, append-nil, append_assoc, asked_of, Begins, Bool, Cut, Draws, early_refusal, End, false, Heading, held_headings, if◌then◌else◌, is_late, is_some, Joined, Lie, limits_of, List, Machine, None, Option, Public, public_of, Read, refl, Refusal, refusal_now, Represents, RevState, script, Seen, Skeleton, skeleton, Some, Static, Stmt, subst, suc, sym, Tables, take, true, Whole, whole_script, zero, ℕ, [], ◌++◌, ◌∙◌, ◌∷◌, ◌≡◌}
+use Rattle.ob_shell.proofs.Words.{Access, AfterCount, Agrees, ap, append-nil, append_assoc, asked_of, Begins, Bool, Cut, Draws, early_refusal, End, false, Heading, held_headings, if◌then◌else◌, is_late, is_some, Batched, FalseRead, limits_of, List, Machine, None, Option, Public, public_of, Read, refl, Refusal, refusal_now, Represents, RevState, script, Seen, Skeleton, skeleton, Some, Static, Stmt, subst, suc, sym, Tables, take, true, Whole, whole_script, zero, ℕ, [], ◌++◌, ◌∙◌, ◌∷◌, ◌≡◌}
 use Rattle.ob_exec.proofs.ChangedScripts.{changes_flat, unsaved_whole, whole_saved}
 use Rattle.ob_mean.specs.Verdict.{accessed, ended, seen, seen_served}
 use Rattle.ob_script.proofs.SavedParts.{whole_is}
@@ -18,11 +18,11 @@ until_longer : (end : End) (xs more : List Access) → Begins (until_end end xs)
 until_longer Static xs more = record { rest = []; joined = refl }
 until_longer Whole xs more = record { rest = more; joined = refl }
 until_longer AfterCount xs more = record { rest = more; joined = refl }
-until_longer Joined xs more = record { rest = []; joined = refl }
+until_longer Batched xs more = record { rest = []; joined = refl }
 until_longer (Cut n) xs more = take_longer n xs more
 
 -- a read in a first part is one in all
-reads_longer : (lie : Lie) (part whole : List Access) → Begins part whole → ReadsIn lie part → ReadsIn lie whole
+reads_longer : (lie : FalseRead) (part whole : List Access) → Begins part whole → ReadsIn lie part → ReadsIn lie whole
 reads_longer lie part whole b reads = record {
   rest = reads.rest ++ b.rest;
   is = sym (append_assoc lie.before (Read lie.region lie.place ∷ reads.rest) b.rest) ∙ ap (λ (l : List Access). l ++ b.rest) reads.is ∙ sym b.joined;
@@ -58,7 +58,7 @@ module _ {R : Type 0} (state : R → RevState) (m : Machine R) (agrees : Agrees 
       let none : meant ≡ ended Static = ap (λ (o : Option Refusal). if is_some o then ended Static else seen_served d (accessed tables stmt) p tables stmt) early in
       subst (λ (x : Seen). Begins (run_script p sk x) (script p sk x)) (sym none) (record { rest = []; joined = refl })
 
-  -- the tables are saved behind it
+  -- the tables are saved after it
   share_saved : p.save ≡ true → changes_tables sk ≡ true → refusal_now p (asked_of m) stmt ≡ None → IsShare
   share_saved saves changes none =
       let kept = agrees.saved saves in
@@ -81,5 +81,5 @@ module _ {R : Type 0} (state : R → RevState) (m : Machine R) (agrees : Agrees 
       by_save false not = share_all (whole_is p sk meant not)
 
   -- a read of it is one of all that is asked
-  pub share_reads : (lie : Lie) → ReadsIn lie (m.store.asked ++ run_script p sk meant) → ReadsIn lie (m.store.asked ++ script p sk meant)
+  pub share_reads : (lie : FalseRead) → ReadsIn lie (m.store.asked ++ run_script p sk meant) → ReadsIn lie (m.store.asked ++ script p sk meant)
   share_reads lie reads = reads_longer lie (m.store.asked ++ run_script p sk meant) (m.store.asked ++ script p sk meant) (begins_behind m.store.asked (run_script p sk meant) (script p sk meant) share) reads

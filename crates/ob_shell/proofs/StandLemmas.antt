@@ -4,7 +4,7 @@ use Rattle.ob_select.specs.Opening.{is_of_rows}
 use Rattle.ob_tables.specs.Telling.{AreHeld}
 use Rattle.ob_tables.specs.Engines.{AreTables, others_of}
 use Rattle.ob_headline.specs.Bases.{HoldsFrom, Opened, drawing, start}
-use Rattle.ob_shell.proofs.CalmLemmas.{first_calm}
+use Rattle.ob_shell.proofs.UntamperedLemmas.{first_calm}
 use Rattle.ob_shell.proofs.LastingLemmas.{none_sealed}
 use Rattle.ob_shell.proofs.LeafLemmas.{no_indexes}
 use Rattle.ob_shell.specs.Standing.{IsUsed, StandsOn}

@@ -10,7 +10,7 @@ use Rattle.ob_vault.proofs.Runs.{shapes_none}
 use Rattle.ob_vault.proofs.WorldSteps.{sealed_kept}
 use Rattle.ob_vault.specs.Calls.{Lasts}
 use Rattle.ob_vault.specs.Numbers.{WritesBehind, number_after}
-use Rattle.ob_vault.specs.Tied.{AllSealed, Calm, ReadsIn, Ready, Scope}
+use Rattle.ob_vault.specs.Tied.{AllSealed, Untampered, ReadsIn, Ready, Scope}
 use Rattle.ob_vault.specs.declared.region.Region.{Region}
 
 pub later_sweeps : (s t : StoreState) → Sweeps s t → Later s t
@@ -73,7 +73,7 @@ module _ {R : Type 0} (state : R → RevState) (e : Engine R) (s t : StoreState)
   stays_live : Ready was → (q : ℕ) (shape : Region) → (state e.vault.revs).live q ≡ Some shape → gone q → ⊥
   stays_live ready q shape live none = let there = (ready.tied.live q shape live).live in absurd (cc (there, none))
 
-  pub calm_swept : Calm was → Calm now
+  pub calm_swept : Untampered was → Untampered now
   calm_swept calm = record {
     calm = λ lie is. calm.calm lie (sym sweeps.lie ∙ is);
     within = λ lie is. subst (ReadsIn lie) (sym sweeps.asked) (calm.within lie (sym sweeps.lie ∙ is));

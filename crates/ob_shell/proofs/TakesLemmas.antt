@@ -56,7 +56,7 @@ module _ {R S : Type 0} {state : R → RevState} {Saves Saves' : Type 0} {on : B
       → TakesTexts state Saves' on May' Then' b1 b2 ys t1 t2 w1 w2 s1 s2 mid new m1 m2 result → TakesTexts state Saves' on May Last b0 b2 (xs ++ ys) t0 t2 w0 w2 s0 s2 old new m0 m2 result
   takes_then ys result last next = joined ys result last (subst (λ (f : Faults). TakesTexts state Saves' on May' Then' b1 b2 ys t1 t2 w1 w2 s1 s2 f new m1 m2 result) (same_faults old mid first.cause) next)
 
--- the same where the second part may leave what comes next unread, behind those that waited
+-- the same where the second part may leave what comes next unread, after those that waited
 module _ {R S : Type 0} {state : R → RevState} {Saves : Type 0} {on : Bool} {May May' : Gathered → Type 0} {Then Then' Last : (old new : Gathered) → Type 0} {b0 b1 : List Stmt} {t0 t1 : Tally} {w0 w1 s0 s1 : Option (List ℕ)} {old mid : Faults}
     {m0 m1 : Machine R} {x : S} (first : TakesTexts state Saves on May Then b0 b1 [] t0 t1 w0 w1 s0 s1 old mid m0 m1 (Ok x)) (may : (g h : Gathered) → May g → Then g h → May' h) (last : (g h k : Gathered) → May g → Then g h → Then' h k → Last g k) (ys : List (List ℕ)) (Why : Stop → Type 0) where
   pub takes_until_then : (Saves' : Type 0) (b2 : List Stmt) (t2 : Tally) (w2 s2 : Option (List ℕ)) (new : Faults) (m2 : Machine R) (result : Result (Option Stop) TextHalted) → TakesUntil state Saves' on May' Then' b1 b2 ys Why t1 t2 w1 w2 s1 s2 mid new m1 m2 result → TakesUntil state Saves' on May Last b0 b2 ys Why t0 t2 w0 w2 s0 s2 old new m0 m2 result
@@ -129,7 +129,7 @@ comes_by (Ok x) may takes = record { ready = takes.ready; waits = takes.waits; d
 comes_by (Err halted) may takes = record { ready = tt; waits = tt; done = tt; stopped = λ g held comes spelt. takes.stopped g held (may g comes) spelt; traced = tt; traced_stop = takes.traced_stop; cause = takes.cause; quiet = takes.quiet }
 
 module _ {R : Type 0} (state : R → RevState) (Saves : Type 0) (on : Bool) (Then : (old new : Gathered) → Type 0) (b0 b1 : List Stmt) (t0 t1 : Tally) (w0 w1 s0 s1 : Option (List ℕ)) (old new : Faults) (m0 m1 : Machine R) where
-  -- it comes behind what else may be gathered
+  -- it comes after what else may be gathered
   pub takes_until_by : {May May' : Gathered → Type 0} (xs : List (List ℕ)) (Why : Stop → Type 0) (result : Result (Option Stop) TextHalted) → ((g : Gathered) → May' g → May g) → TakesUntil state Saves on May Then b0 b1 xs Why t0 t1 w0 w1 s0 s1 old new m0 m1 result → TakesUntil state Saves on May' Then b0 b1 xs Why t0 t1 w0 w1 s0 s1 old new m0 m1 result
   takes_until_by xs Why (Ok None) may takes = comes_by (Ok None) may takes
   takes_until_by xs Why (Ok (Some stop)) may takes = (comes_by (Ok (Some stop)) may takes.0, takes.1)
@@ -149,7 +149,7 @@ module _ {R : Type 0} (state : R → RevState) (Saves : Type 0) (on : Bool) (The
 pub stops_unlost : {R : Type 0} {state : R → RevState} {w0 w1 : Option (List ℕ)} {quiet : Bool} {P G : Type 0} {texts : List (List ℕ)} {stop : RunStop} {m0 m1 : Machine R} → quiet ≡ false → StopsIn state w0 w1 ((quiet ≡ true) × P) texts stop m0 m1 → StopsIn state w0 w1 G texts stop m0 m1
 stops_unlost not stops = record { bytes = stops.bytes; partly = stops.partly; cut = Outputs-by (λ lost. absurd (cc (not, lost.0))) stops.cut }
 
--- ---- a text behind which none waits
+-- ---- a text after which none waits
 -- of a stop within it
 breaks_one : {R : Type 0} {state : R → RevState} {on : Bool} {w0 w1 s0 s1 : Option (List ℕ)} {m1 : Machine R} {Lost Fault : Type 0} (m0 : Machine R) (text : List ℕ) (stop : RunStop) (g h : Gathered) → StopsIn state w0 w1 Lost (text ∷ []) stop (standing m0 [] g) (standing m1 [] h) → Traced on m0.store.asked m1.store.asked s0 s1 Fault
     → BreaksIn state on w0 w1 s0 s1 Lost (text ∷ []) stop (standing m0 [] g) m1

@@ -1,5 +1,5 @@
 -- The whole run, from its first line and its session.
-use Rattle.ob_shell.proofs.Words.{Access, All-nil, ap, append-nil, Appends, Appends-nil, arith, BadKey, Base, batch_most, before_read, Begins, Bool, Config, cut_off, drop, Ending, EndingTally, EndsBy, EndsUntampered, Err, false, Faults, Fed, Fetch, FirstLine, flagged, FlightSettings, flying, fresh, Halt, IfOk, inl, inr, IsFedBy, IsFresh, IsTrue, KeyRead, KeySet, last_line, length, length-append, limit_of, List, list_any, LosesSome, most_some, Ok, Option, Outputs, Outputs-after, Outputs-fault, Outputs-whole, printed, Public, refl, Result, RevState, Rises, Seat, SinksRose, Some, SpellFirst, statements, Stop, StoreState, subst, sym, take, Tally, Took, traced, true, Usage, ℕ, [], ◌++◌, ◌∙◌, ◌∷◌, ◌≡◌, ◌≢◌, ◌≤◌, ◌⊎◌}
+use Rattle.ob_shell.proofs.Words.{Access, All-nil, ap, append-nil, Appends, Appends-nil, arith, BadKey, Base, batch_most, before_read, Begins, Bool, Config, cut_off, drop, Ending, EndingTally, EndsBy, EndsUntampered, Err, false, Faults, Fed, Fetch, FirstLine, flagged, FlightSettings, flying, fresh, Halt, IfOk, inl, inr, IsFedBy, IsFresh, IsTrue, KeyRead, KeySet, last_line, length, length-append, limit_of, List, list_any, LosesSome, most_some, Ok, Option, Outputs, Outputs-after, Outputs-fault, Outputs-whole, printed, Public, refl, Result, RevState, Rises, Position, SinksRose, Some, SpellFirst, statements, Stop, StoreState, subst, sym, take, Tally, Took, traced, true, Usage, ℕ, [], ◌++◌, ◌∙◌, ◌∷◌, ◌≡◌, ◌≢◌, ◌≤◌, ◌⊎◌}
 use Rattle.std.proofs.Common.{◌==◌}
 use Rattle.std.proofs.KnownBytes.{Consumes-trans, Consumes-nil}
 use Rattle.ob_base.specs.declared.refusal.Stop.TheVariants.{Tampered, SourceFault, SinkFault, NoMemory, InputLimit, StoreFault, StashFull, KeeperFault}
@@ -9,7 +9,7 @@ use Rattle.ob_headline.proofs.PromptLemmas.{all_answered, prompt_all, prompt_lin
 use Rattle.ob_headline.proofs.TextLemmas.{rest_of-nil, texts_of-nil}
 use Rattle.ob_headline.specs.Bases.{start}
 use Rattle.ob_headline.specs.Disturbed.{MeantUntil, meant_entries}
-use Rattle.ob_headline.specs.Flights.{AreEntries, AreGathered, EndedBy, GoesOn, most_of, public_whole, seats, seats_of, served_by, whole_of as entries_whole}
+use Rattle.ob_headline.specs.Flights.{AreEntries, AreGathered, EndedBy, GoesOn, most_of, public_whole, positions, positions_of, served_by, whole_of as entries_whole}
 use Rattle.ob_headline.specs.Failures.{failures}
 use Rattle.ob_headline.specs.KeyLine.{has_lf, first_line, after_line, secret_of}
 use Rattle.ob_headline.specs.Texts.{is_over, rest_of, texts_of, texts_in}
@@ -71,12 +71,12 @@ unfaulted_ends other fine ends = cc ends
 
 pub unstarted : {keys : KeySet} (tr : TraceSink) (settings : Option Config) (flight : Option FlightSettings) (secret : Option (List ℕ)) (s : StoreState) (more : List (List ℕ)) (ending : Ending) → IsFresh s → tr.new ≡ tr.old → EndsUntampered ending → EndsUnfaulted ending
     → Carried tr (flying flight (fresh settings)) keys secret s s 0 (unserved more) ending
-unfolding SpellFirst AreSeen AnswersFrom MeantUntil failures cut_off any_cut statements served_by AreEntries AreGathered seats trace_in entries_whole meant_entries
+unfolding SpellFirst AreSeen AnswersFrom MeantUntil failures cut_off any_cut statements served_by AreEntries AreGathered positions trace_in entries_whole meant_entries
 unstarted tr settings flight secret s more ending blank untraced untampered unfaulted = record {
   statements = record { spells = tt; reached = omega arith; begun = omega arith; keyed = inr refl; each = refl };
   accesses = record {
     flat = start_flat settings;
-    entered = record { served = refl; entries = tt; gathered = tt; ended = All-nil (λ (v : Seat). EndedBy v.left v) };
+    entered = record { served = refl; entries = tt; gathered = tt; ended = All-nil (λ (v : Position). EndedBy v.left v) };
     begun = λ ends. absurd (unfaulted_ends ending unfaulted ends);
     each_seen = refl;
     lawful = refl;
@@ -113,8 +113,8 @@ unstarted tr settings flight secret s more ending blank untraced untampered unfa
 }
 
 -- none were begun
-pub none_began : (settings : Option Config) (flight : Option FlightSettings) → GoesOn (drop 0 (seats_of (flying flight (fresh settings)) []))
-unfolding seats
+pub none_began : (settings : Option Config) (flight : Option FlightSettings) → GoesOn (drop 0 (positions_of (flying flight (fresh settings)) []))
+unfolding positions
 none_began settings flight = tt
 
 pub took_none : (w : Option (List ℕ)) → Took w w (printed [])
@@ -301,7 +301,7 @@ after_last {f1 = f1} piece last none read =
       ap (λ (l : List ℕ). secret_of (first_line l)) all ∙ ends.0,
     )
 
--- the session behind the first line, of which this was carried out
+-- the session after the first line, of which this was carried out
 unfoldable pub shown_by : {R : Type 0} {state : R → RevState} {Lost : Type 0} {k : KeySet} {keys : List ℕ → KeySet} {tally : Tally} {tr : TraceSink} (base : Base) {f0 f1 f2 : Fetch} {gave : ℕ} {l0 l1 l2 w0 w2 : Option (List ℕ)} {s0 s2 : StoreState} {high : ℕ} {first : Result FirstLine Halt} (key : List ℕ) (result : Result Tally Stop)
     → f0.taken ≡ 0 → f0.limit ≡ limit_of base.settings → f2.taken ≤ f2.limit → IsFedBy f2 gave
     → (read : KeyRead f0 f1 l0 l1 first) (ran : RanAfter state tr base k (Some key) f1 f2 l1 l2 gave w0 w2 s0 s2 high Lost result)

@@ -1,5 +1,5 @@
 -- Texts that are served while others wait, one part after the other.
-use Rattle.ob_shell.proofs.Words.{All, All-cons, All-head, All-tail, All-weaker, AllInsert, Answer, AnsweredBut, ap, append_assoc, Appends-nil, Appends-trans, AreSpelt, arith, at_rest, batch_most, Begins, begins, Bool, EndsBy, Fetch, flagged, FlightSettings, Gathered, inl, inr, inserts_into, LastPart, length, length-append, List, Machine, map, may_fly, more_together, most_flown, most_some, None, Ok, one_more, Option, Outputs, Outputs-after, printed, Public, public_of, refl, Result, RevState, RunStop, seen_of, SelectsFromOne, skeleton, Some, SpellFirst, Spells, standing, statements_of, Step, Steps, Stmt, Stop, subst, sym, Table, Tally, TracedAll, true, ℕ, [], ◌++◌, ◌∙◌, ◌∷◌, ◌≡◌, ◌⊎◌}
+use Rattle.ob_shell.proofs.Words.{All, All-cons, All-head, All-tail, All-weaker, AllInsert, Answer, AnsweredExcept, ap, append_assoc, Appends-nil, Appends-trans, AreSpelt, arith, at_rest, batch_most, Begins, begins, Bool, EndsBy, Fetch, flagged, FlightSettings, Gathered, inl, inr, inserts_into, LastPart, length, length-append, List, Machine, map, may_fly, more_together, most_flown, most_some, None, Ok, one_more, Option, Outputs, Outputs-after, printed, Public, public_of, refl, Result, RevState, RunStop, seen_of, SelectsFromOne, skeleton, Some, SpellFirst, Spells, standing, statements_of, Step, Steps, Stmt, Stop, subst, sym, Table, Tally, TracedAll, true, ℕ, [], ◌++◌, ◌∙◌, ◌∷◌, ◌≡◌, ◌⊎◌}
 use Rattle.std.specs.Prelude.{IsSome}
 use Rattle.ob_base.specs.declared.refusal.Stop.TheVariants as Stops
 use Rattle.ob_headline.proofs.PromptLemmas.{all_answered, none_waits}
@@ -253,7 +253,7 @@ waits_alike p q most texts same wait = record {
   select = All-weaker (λ (stmt : Stmt). may_fly p (skeleton stmt) ≡ true) (λ (stmt : Stmt). may_fly q (skeleton stmt) ≡ true) (λ stmt may. may_by q p (skeleton stmt) same ∙ may) wait.stmts wait.select;
 }
 
--- where all are SELECTs of one table, the tables are the same behind the first of them
+-- where all are SELECTs of one table, the tables are the same after the first of them
 abbrev pub LeavesTables : (p q : Public) → List (List ℕ) → List Stmt → Type 0
 LeavesTables p q served batch = (rest : List (List ℕ)) → AreSpelt (served ++ rest) batch → All (λ (stmt : Stmt). SelectsFromOne (skeleton stmt)) batch → q.tables ≡ p.tables
 
@@ -279,9 +279,9 @@ cut_twice (x ∷ a) b (y ∷ c) e is =
     ]
 
 -- of texts that were whole before the last read all were answered but for some that wait, where some of those that waited were
-pub answered_but : (settings : Option FlightSettings) (p : Public) (m : ℕ) (batch : List Stmt) (texts served held more_served rest ys whole : List (List ℕ)) → AreWaiting settings p m batch → AreSpelt held batch → texts ≡ served ++ held → held ++ ys ≡ more_served ++ rest → Begins whole texts
-    → (q : Public) → LeavesTables p q more_served batch → AnsweredBut q (batch_most p) (most_flown settings p) whole (served ++ more_served)
-answered_but settings p m batch texts served held more_served rest ys whole gathered spelt first second begins q leaves = elim (cut_twice held ys more_served rest second) [
+pub answered_except : (settings : Option FlightSettings) (p : Public) (m : ℕ) (batch : List Stmt) (texts served held more_served rest ys whole : List (List ℕ)) → AreWaiting settings p m batch → AreSpelt held batch → texts ≡ served ++ held → held ++ ys ≡ more_served ++ rest → Begins whole texts
+    → (q : Public) → LeavesTables p q more_served batch → AnsweredExcept q (batch_most p) (most_flown settings p) whole (served ++ more_served)
+answered_except settings p m batch texts served held more_served rest ys whole gathered spelt first second begins q leaves = elim (cut_twice held ys more_served rest second) [
   | inl longer ↦
       all_answered q (batch_most p) (most_flown settings p) whole (served ++ more_served) (most_some p)
       (record {
@@ -297,7 +297,7 @@ answered_but settings p m batch texts served held more_served rest ys whole gath
   }
 ]
 
--- ---- how a session ends behind them
+-- ---- how a session ends after them
 module _ (f : Fetch) (ended : Bool) (bytes : List ℕ) (more : List (List ℕ)) (t : Tally) where
   pub ends_end : (ends : Option Stop) → EndsReading f ended bytes more ends → EndsBy f ended bytes more [] (flagged (ended_with ends t))
   ends_end None reading = reading

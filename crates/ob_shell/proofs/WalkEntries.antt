@@ -1,15 +1,15 @@
 -- How the statements of some texts are served from a machine on, each alone, or several together.
-use Rattle.ob_shell.proofs.Words.{Access, All, All-cons, All-nil, ap, arith, asked_of, Bool, Err, false, Flights, gathered_then, if◌then◌else◌, inl, inr, length, List, Machine, most_flown, nat_le, next, None, Ok, Option, place_now, public_of, refl, script, Seat, Seen, skeleton, Some, Spelt, Stmt, subst, suc, sym, take, true, ℕ, [], ◌++◌, ◌+◌, ◌-◌, ◌<◌, ◌∙◌, ◌∷◌, ◌≡◌}
-use Rattle.ob_headline.specs.Flights.{AreEntries, AreGathered, EndedBy, MayFly as FlyMay, seat_alone, seats, served_by, whole_of}
+use Rattle.ob_shell.proofs.Words.{Access, All, All-cons, All-nil, ap, arith, asked_of, Bool, Err, false, Flights, gathered_then, if◌then◌else◌, inl, inr, length, List, Machine, most_flown, nat_le, next, None, Ok, Option, place_now, public_of, refl, script, Position, Seen, skeleton, Some, Spelt, Stmt, subst, suc, sym, take, true, ℕ, [], ◌++◌, ◌+◌, ◌-◌, ◌<◌, ◌∙◌, ◌∷◌, ◌≡◌}
+use Rattle.ob_headline.specs.Flights.{AreEntries, AreGathered, EndedBy, MayFly as FlyMay, position_alone, positions, served_by, whole_of}
 use Rattle.ob_script.specs.Flights.{Alone, Entry, Together, trace_in}
 use Rattle.ob_script.specs.Trace.{Served}
 use Rattle.ob_shell.proofs.HowLemmas.{StartsApart}
-use Rattle.ob_shell.proofs.SeatLemmas.{seats_alone_then}
+use Rattle.ob_shell.proofs.PositionLemmas.{positions_alone_then}
 
 -- ---- from a machine on
 module _ {R : Type 0} where
-  abbrev pub seats_at : Machine R → List Entry → List Seat
-  seats_at m entries = seats m.flights.words 0 (public_of m.engine) (asked_of m) entries
+  abbrev pub positions_at : Machine R → List Entry → List Position
+  positions_at m entries = positions m.flights.words 0 (public_of m.engine) (asked_of m) entries
 
   abbrev pub trace_at : Machine R → List Entry → List Access
   trace_at m entries = trace_in m.flights.words 0 (public_of m.engine) entries
@@ -21,8 +21,8 @@ module _ {R : Type 0} where
   pub record EntriesSo (m : Machine R) (entries : List Entry) (spelt : List Spelt) (seen last : List Served) : Type 0 where
     pub served : served_by entries ≡ seen ++ last
     pub are : AreEntries (most_at m) (length seen) entries
-    pub gathers : AreGathered (most_at m) m.gathered.flown (seats_at m entries) spelt
-    pub ended : All (λ (v : Seat). EndedBy v.left v) (take (length seen) (seats_at m entries))
+    pub gathers : AreGathered (most_at m) m.gathered.flown (positions_at m entries) spelt
+    pub ended : All (λ (v : Position). EndedBy v.left v) (take (length seen) (positions_at m entries))
     pub starts : StartsApart (most_at m) (public_of m.engine) m.gathered.flown spelt
 
 -- ---- entries
@@ -75,7 +75,7 @@ module _ {R : Type 0} where
     served = refl;
     are = tt;
     gathers = tt;
-    ended = All-nil (λ (v : Seat). EndedBy v.left v);
+    ended = All-nil (λ (v : Position). EndedBy v.left v);
     starts = tt;
   }
 
@@ -85,19 +85,19 @@ module _ {R : Type 0} where
     served = refl;
     are = tt;
     gathers = tt;
-    ended = All-nil (λ (v : Seat). EndedBy v.left v);
+    ended = All-nil (λ (v : Position). EndedBy v.left v);
     starts = tt;
   }
 
   -- one that was begun
   pub one_entry : (m : Machine R) (stmt : Stmt) (here : Seen) → place_now (most_at m) (public_of m.engine) m.gathered.flown (skeleton stmt) ≡ 0
       → EntriesSo m (Alone (record { skeleton = skeleton stmt; seen = here }) ∷ []) (Ok stmt ∷ []) [] (record { skeleton = skeleton stmt; seen = here } ∷ [])
-  unfolding served_by AreEntries AreGathered seats
+  unfolding served_by AreEntries AreGathered positions
   one_entry m stmt here apart = record {
     served = refl;
     are = (tt, inr refl, tt);
     gathers = (sym apart, tt);
-    ended = All-nil (λ (v : Seat). EndedBy v.left v);
+    ended = All-nil (λ (v : Position). EndedBy v.left v);
     starts = apart;
   }
 
@@ -107,14 +107,14 @@ module _ {R : Type 0} where
   unfolding AreGathered
   refused_entries m m1 at entries spelt seen last none flights public asked rest =
       let most : most_at m1 ≡ most_at m = λ i. most_flown (flights i).settings (public i) in
-      let there : seats_at m1 entries ≡ seats_at m entries = λ i. seats (flights i).words 0 (public i) (asked i) entries in
+      let there : positions_at m1 entries ≡ positions_at m entries = λ i. positions (flights i).words 0 (public i) (asked i) entries in
       record {
         served = rest.served;
         are = subst (λ (k : ℕ). AreEntries k (length seen) entries) most rest.are;
         gathers =
-            subst (λ (vs : List Seat). AreGathered (most_at m) 0 vs spelt) there
-            (subst (λ (k : ℕ). AreGathered k 0 (seats_at m1 entries) spelt) most (subst (λ (k : ℕ). AreGathered (most_at m1) k (seats_at m1 entries) spelt) none rest.gathers));
-        ended = subst (λ (vs : List Seat). All (λ (v : Seat). EndedBy v.left v) (take (length seen) vs)) there rest.ended;
+            subst (λ (vs : List Position). AreGathered (most_at m) 0 vs spelt) there
+            (subst (λ (k : ℕ). AreGathered k 0 (positions_at m1 entries) spelt) most (subst (λ (k : ℕ). AreGathered (most_at m1) k (positions_at m1 entries) spelt) none rest.gathers));
+        ended = subst (λ (vs : List Position). All (λ (v : Position). EndedBy v.left v) (take (length seen) vs)) there rest.ended;
         starts = tt;
       }
 
@@ -127,22 +127,22 @@ module _ {R : Type 0} where
     pub most_alone : most_at m1 ≡ most_at m
     most_alone = λ i. most_flown (flights i).settings (public i)
 
-    pub seats_more : (entries : List Entry) → seats_at m (Alone x ∷ entries) ≡ seat_alone (public_of m.engine) (asked_of m) x ∷ seats_at m1 entries
-    seats_more = seats_alone_then m.flights.words m1.flights.words (public_of m.engine) (public_of m1.engine) (asked_of m) (asked_of m1) x (ap (λ (f : Flights). f.words) flights) public asked
+    pub positions_more : (entries : List Entry) → positions_at m (Alone x ∷ entries) ≡ position_alone (public_of m.engine) (asked_of m) x ∷ positions_at m1 entries
+    positions_more = positions_alone_then m.flights.words m1.flights.words (public_of m.engine) (public_of m1.engine) (asked_of m) (asked_of m1) x (ap (λ (f : Flights). f.words) flights) public asked
 
     pub alone_entries : (entries : List Entry) (spelt : List Spelt) (seen last : List Served) → place_now (most_at m) (public_of m.engine) m.gathered.flown (skeleton stmt) ≡ 0
         → m1.gathered.flown ≡ gathered_then (public_of m.engine) 0 (skeleton stmt) → EntriesSo m1 entries spelt seen last → EntriesSo m (Alone x ∷ entries) (Ok stmt ∷ spelt) (x ∷ seen) last
     unfolding AreGathered served_by
     alone_entries entries spelt seen last apart gathered rest =
-        let there = sym (seats_more entries) in
+        let there = sym (positions_more entries) in
         record {
           served = ap (λ (l : List Served). x ∷ l) rest.served;
           are = alone_are (most_at m) (length seen) x entries (subst (λ (k : ℕ). AreEntries k (length seen) entries) most_alone rest.are);
-          gathers = subst (λ (vs : List Seat). AreGathered (most_at m) m.gathered.flown vs (Ok stmt ∷ spelt)) there (
+          gathers = subst (λ (vs : List Position). AreGathered (most_at m) m.gathered.flown vs (Ok stmt ∷ spelt)) there (
             sym apart,
-            subst (λ (k : ℕ). AreGathered (most_at m) k (seats_at m1 entries) spelt) gathered (subst (λ (k : ℕ). AreGathered k m1.gathered.flown (seats_at m1 entries) spelt) most_alone rest.gathers),
+            subst (λ (k : ℕ). AreGathered (most_at m) k (positions_at m1 entries) spelt) gathered (subst (λ (k : ℕ). AreGathered k m1.gathered.flown (positions_at m1 entries) spelt) most_alone rest.gathers),
           );
-          ended = subst (λ (vs : List Seat). All (λ (v : Seat). EndedBy v.left v) (take (suc (length seen)) vs)) there
-              (All-cons (λ (v : Seat). EndedBy v.left v) (seat_alone (public_of m.engine) (asked_of m) x) (take (length seen) (seats_at m1 entries)) tt rest.ended);
+          ended = subst (λ (vs : List Position). All (λ (v : Position). EndedBy v.left v) (take (suc (length seen)) vs)) there
+              (All-cons (λ (v : Position). EndedBy v.left v) (position_alone (public_of m.engine) (asked_of m) x) (take (length seen) (positions_at m1 entries)) tt rest.ended);
           starts = apart;
         }

@@ -1,4 +1,4 @@
--- What was done behind the texts that were answered one by one, or several together: the last part of a walk.
+-- What was done after the texts that were answered one by one, or several together: the last part of a walk.
 use Rattle.ob_shell.proofs.Words.{Answer, append-nil, Bool, CutTogether, Ending, Err, FinishedTogether, inl, inr, LastPart, List, LosesSome, Machine, Ok, Option, Outputs, PartlyAt, printed, Ran, refl, Result, RevState, RunStop, session_stop, Stop, subst, sym, Took, ℕ, [], ◌++◌, ◌∷◌, ◌≡◌, ◌⊎◌}
 use Rattle.ob_shell.proofs.LeftFlights.{flies_last}
 use Rattle.ob_shell.proofs.FlightLast.{LastWalk}

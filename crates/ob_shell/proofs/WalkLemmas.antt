@@ -1,5 +1,5 @@
 -- A walk over the texts that were answered, and the one begun, as far as the first.
-use Rattle.ob_shell.proofs.Words.{Access, after, Answer, ap, append-nil, append_cancel_left, AreDraws, arith, asked_of, Begins, Bool, by_fault, closing_line, cut_off, Does, Draws, drop, Ending, EndsUntampered, engine_start, Err, Event, events_text, false, Gathering, Given, How, indexes_of, inl, inr, is_cut, is_fault, is_full_now, IsBefore, IsSteady, IsTrue, KeySet, length, Lie, List, Machine, map, met_script, None, Ok, opened_from, Option, Outcome, PrintsUntil, Public, public_of, Ran, ReadsTrueUntil, refl, Represents, Result, RevState, RisesBy, RunStop, script, Seat, Seen, seen_of, seen_or_cut, Session, session_of, session_stop, Skeleton, skeleton, Some, SpellFirst, Spelt, statements, statements_of, Stmt, subst, sym, Tables, take, true, whole_script, World, world_of, ℕ, [], ◌&&◌, ◌++◌, ◌+◌, ◌-◌, ◌<◌, ◌||◌, ◌∙◌, ◌∷◌, ◌≡◌, ◌≤◌, ◌⊎◌}
+use Rattle.ob_shell.proofs.Words.{Access, after, Answer, ap, append-nil, append_cancel_left, AreDraws, arith, asked_of, Begins, Bool, by_fault, closing_line, cut_off, Does, Draws, drop, Ending, EndsUntampered, engine_start, Err, Event, events_text, false, Gathering, Given, How, indexes_of, inl, inr, is_cut, is_fault, is_full_now, IsBefore, IsSteady, IsTrue, KeySet, length, FalseRead, List, Machine, map, met_script, None, Ok, opened_from, Option, Outcome, PrintsUntil, Public, public_of, Ran, ReadsTrueUntil, refl, Represents, Result, RevState, RisesBy, RunStop, script, Position, Seen, seen_of, seen_or_cut, Session, session_of, session_stop, Skeleton, skeleton, Some, SpellFirst, Spelt, statements, statements_of, Stmt, subst, sym, Tables, take, true, whole_script, World, world_of, ℕ, [], ◌&&◌, ◌++◌, ◌+◌, ◌-◌, ◌<◌, ◌||◌, ◌∙◌, ◌∷◌, ◌≡◌, ◌≤◌, ◌⊎◌}
 use Rattle.std.specs.Prelude.{max}
 use Rattle.ob_base.specs.declared.refusal.Stop.TheVariants.{NoMemory, StashFull}
 use Rattle.ob_tables.proofs.EmitLemmas.{unfit_none}
@@ -10,10 +10,10 @@ use Rattle.ob_tables.specs.Telling.{IsNotTampered, Meant, ReadsTrue, is_refused}
 use Rattle.ob_tables.specs.declared.stop.RunStop.TheVariants as Runs
 use Rattle.ob_headline.specs.Failures.{FailsBeside, failures}
 use Rattle.ob_headline.specs.Disturbed.{MeantUntil, meant_entries}
-use Rattle.ob_headline.specs.Flights.{GoesOn, after_entries, seat_alone, seats, whole_of}
+use Rattle.ob_headline.specs.Flights.{GoesOn, after_entries, position_alone, positions, whole_of}
 use Rattle.ob_headline.specs.FullStash.{ReadsFullStash}
 use Rattle.ob_headline.specs.Words.{refused_at}
-use Rattle.ob_headline.specs.Accesses.{AreSeen, LeavesAloft, StopsWithin, cut_aloft, WantsMemory, any_cut, ends_within, may_end}
+use Rattle.ob_headline.specs.Accesses.{AreSeen, LeavesInFlight, StopsWithin, cut_in_flight, WantsMemory, any_cut, ends_within, may_end}
 use Rattle.ob_headline.specs.Meaning.{AnswersFrom, AnswersIn, BeginsAnswer, session_after}
 use Rattle.ob_keyed.specs.Serving.{Overfills}
 use Rattle.ob_mean.specs.Replay.{Alone, Broken, CutAfter, IsCutOff, cut_at, draws_taken, is_access, seen_now}
@@ -31,10 +31,10 @@ use Rattle.ob_shell.proofs.LeavePath.{Along, Path, ended_along, ends_so, over_al
 use Rattle.ob_shell.proofs.LeafLemmas.{Reads, drawn_leaves, reads_last, reads_none, reads_unasked}
 use Rattle.ob_shell.proofs.ReplayLemmas.{cut_early, cut_within, free_holds, holds_free, outcome_cases}
 use Rattle.ob_shell.proofs.StopLemmas.{only_memory, only_sink, only_stash, stop_untampered, tampered_as}
-use Rattle.ob_shell.proofs.WalkEntries.{EntriesSo, most_at, no_entries, none_refused, one_entry, seats_at, trace_at}
+use Rattle.ob_shell.proofs.WalkEntries.{EntriesSo, most_at, no_entries, none_refused, one_entry, positions_at, trace_at}
 use Rattle.ob_shell.proofs.WithLemmas.{means_with, room_with, script_with, seen_with, uncut_with, with_apart, with_joins, with_lawful}
 use Rattle.ob_shell.specs.Steps.{CutStep, Finished, Follow, Holds, Idle, IsUndone, Misspelt, Owed, Owes, ServedStatement, ServedWith, StaysAs, draws_behind, has_failed, settled_by}
-use Rattle.ob_vault.specs.Tied.{Calm, IsUnfit}
+use Rattle.ob_vault.specs.Tied.{Untampered, IsUnfit}
 
 -- ---- a stop that is none by a block
 sink_untampered : (run : RunStop) → run ≡ Runs.SinkFault → IsNotTampered run
@@ -57,7 +57,7 @@ EndsWhole (Ran (Ok refused)) = Unit {0}
 EndsWhole other = ⊥
 
 -- ---- where tables are saved
--- none are behind any statement, where the settings don't say so
+-- none are after any statement, where the settings don't say so
 pub none_saved : (p : Public) (outline : Skeleton) → p.save ≡ false → is_saved p outline ≡ false
 none_saved p outline unsaved = go (changes_tables outline) where
   go : (b : Bool) → (b && p.save) ≡ false
@@ -85,21 +85,21 @@ module _ {R : Type 0} (state : R → RevState) where
   abbrev pub Full : Machine R → Public → Stmt → Seen → Type 0
   Full m p stmt seen = ReadsFullStash m.engine.vault.keys (engine_start m.engine) m.store p stmt seen
 
-  -- what holds before the first disturbance, which comes behind n accesses
-  pub record EarlyFrom (n most : ℕ) (words : ℕ → ℕ) (g : Option Gathering) (seats : List Seat) (s : Session) (asked0 asked2 : List Access) (spelt : List Spelt) (answers : List Answer) (seen : List Entry) : Type 0 where
-    pub meant : MeantUntil n g seats s spelt answers seen
+  -- what holds before the first disturbance, which comes after n accesses
+  pub record EarlyFrom (n most : ℕ) (words : ℕ → ℕ) (g : Option Gathering) (positions : List Position) (s : Session) (asked0 asked2 : List Access) (spelt : List Spelt) (answers : List Answer) (seen : List Entry) : Type 0 where
+    pub meant : MeantUntil n g positions s spelt answers seen
     pub begins : Begins (take n asked2) (asked0 ++ met_trace most words g s spelt)
     pub quiet : length (asked0 ++ met_trace most words g s spelt) ≤ n → length asked2 ≤ n
 
   abbrev pub EarlyAt : (m0 m2 : Machine R) → List Turn → List Spelt → List Answer → List Entry → Type 0
   EarlyAt m0 m2 entries spelt answers all =
       (d : Draws) → AreDraws m0.engine d → IsTrue m0.store.tells → IsSteady m0.store → (tables : Tables) → Holds state m0 d tables → has_failed m0.gathered.batch ≡ false → (n : ℕ) → IsBefore m0.store.disturbed n → length m0.store.asked ≤ n
-      → EarlyFrom n (most_at m0) m0.flights.words m0.gathered.batch (seats_at m0 entries) (session_of m0 d tables) m0.store.asked m2.store.asked spelt answers all
+      → EarlyFrom n (most_at m0) m0.flights.words m0.gathered.batch (positions_at m0 entries) (session_of m0 d tables) m0.store.asked m2.store.asked spelt answers all
 
   -- of texts of which nothing was asked, and none was answered
-  early_still : (n most : ℕ) (words : ℕ → ℕ) (g : Option Gathering) (seats : List Seat) (s : Session) (asked0 asked2 : List Access) (spelt : List Spelt) (seen : List Entry) → MeantUntil n g seats s spelt [] seen → asked2 ≡ asked0 → length asked0 ≤ n
-      → EarlyFrom n most words g seats s asked0 asked2 spelt [] seen
-  early_still n most words g seats s asked0 asked2 spelt seen meant same few = record {
+  early_still : (n most : ℕ) (words : ℕ → ℕ) (g : Option Gathering) (positions : List Position) (s : Session) (asked0 asked2 : List Access) (spelt : List Spelt) (seen : List Entry) → MeantUntil n g positions s spelt [] seen → asked2 ≡ asked0 → length asked0 ≤ n
+      → EarlyFrom n most words g positions s asked0 asked2 spelt [] seen
+  early_still n most words g positions s asked0 asked2 spelt seen meant same few = record {
     meant = meant;
     begins = subst (λ (l : List Access). Begins (take n l) (asked0 ++ met_trace most words g s spelt)) (sym same)
         (begins_more (take n asked0) asked0 (met_trace most words g s spelt) (take_begins n asked0));
@@ -107,17 +107,17 @@ module _ {R : Type 0} (state : R → RevState) where
   }
 
   -- a text that is no statement
-  pub early_answered : (n most : ℕ) (words : ℕ → ℕ) (g : Option Gathering) (seats : List Seat) (s : Session) (asked0 asked2 : List Access) (at : ℕ) (spelt : List Spelt) (one : Answer) (answers : List Answer) (seen : List Entry) → one ≡ refused_at at
-      → EarlyFrom n most words None seats s asked0 asked2 spelt answers seen → EarlyFrom n most words g seats s asked0 asked2 (Err at ∷ spelt) (one ∷ answers) seen
+  pub early_answered : (n most : ℕ) (words : ℕ → ℕ) (g : Option Gathering) (positions : List Position) (s : Session) (asked0 asked2 : List Access) (at : ℕ) (spelt : List Spelt) (one : Answer) (answers : List Answer) (seen : List Entry) → one ≡ refused_at at
+      → EarlyFrom n most words None positions s asked0 asked2 spelt answers seen → EarlyFrom n most words g positions s asked0 asked2 (Err at ∷ spelt) (one ∷ answers) seen
   unfolding MeantUntil meant_entries
-  early_answered n most words g seats s asked0 asked2 at spelt one answers seen is rest = record { meant = (is, rest.meant); begins = rest.begins; quiet = rest.quiet }
+  early_answered n most words g positions s asked0 asked2 at spelt one answers seen is rest = record { meant = (is, rest.meant); begins = rest.begins; quiet = rest.quiet }
 
   -- a statement was begun
-  early_one : (m0 m2 : Machine R) (tables : Tables) (stmt : Stmt) (result : Result Outcome RunStop) (n most : ℕ) (words : ℕ → ℕ) (seats : List Seat) (seen : List Entry) → (d : Draws) → AreDraws m0.engine d → Does state m0 m2 stmt result → IsTrue m0.store.tells → IsSteady m0.store
+  early_one : (m0 m2 : Machine R) (tables : Tables) (stmt : Stmt) (result : Result Outcome RunStop) (n most : ℕ) (words : ℕ → ℕ) (positions : List Position) (seen : List Entry) → (d : Draws) → AreDraws m0.engine d → Does state m0 m2 stmt result → IsTrue m0.store.tells → IsSteady m0.store
       → Represents state m0.engine m0.store tables → IsBefore m0.store.disturbed n → length m0.store.asked ≤ n
-      → EarlyFrom n most words m0.gathered.batch seats (session_of m0 d tables) m0.store.asked m2.store.asked (Ok stmt ∷ []) [] seen
+      → EarlyFrom n most words m0.gathered.batch positions (session_of m0 d tables) m0.store.asked m2.store.asked (Ok stmt ∷ []) [] seen
   unfolding MeantUntil
-  early_one m0 m2 tables stmt result n most words seats seen d drawn does tells steady held before few =
+  early_one m0 m2 tables stmt result n most words positions seen d drawn does tells steady held before few =
       let cross = crosses state m0 m2 d drawn tables stmt result does tells steady held n before few in
       let s = session_of m0 d tables in
       let same : met_trace most words m0.gathered.batch s (Ok stmt ∷ []) ≡ met_script s stmt = meets_alone most words m0.gathered.batch s stmt does.alone.batch in
@@ -127,10 +127,10 @@ module _ {R : Type 0} (state : R → RevState) where
         quiet = λ le. cross.within (subst (λ (l : List Access). length (m0.store.asked ++ l) ≤ n) same le);
       }
 
-  -- what is known behind the texts: the tables, where all were answered, and the way there
-  pub record Behind (ending : Ending) (m0 m2 : Machine R) (d : Draws) (tables : Tables) (seats : List Seat) (spelt : List Spelt) (answers : List Answer) (broken : Broken) (after_it : Tables) : Type 0 where
+  -- what is known after the texts: the tables, where all were answered, and the way there
+  pub record AfterTexts (ending : Ending) (m0 m2 : Machine R) (d : Draws) (tables : Tables) (positions : List Position) (spelt : List Spelt) (answers : List Answer) (broken : Broken) (after_it : Tables) : Type 0 where
     pub whole : EndsWhole ending → Represents state m2.engine m2.store after_it
-    pub path : Path state ending m0 m2 d tables seats spelt answers broken
+    pub path : Path state ending m0 m2 d tables positions spelt answers broken
 
   -- from the first machine to the second these texts were answered so, and to the third one more was begun, or a flight, of
   -- which all that had ended were answered, unless it was for this cause
@@ -148,9 +148,9 @@ module _ {R : Type 0} (state : R → RevState) where
     pub in_access : ends_within ending ≡ true → length last ≡ 1
     pub each_seen : length seen ≡ length (statements (take (length texts) spelt))
     pub lawful : (most old : ℕ) → (FailsBeside seen m0.store.faults m2.store.faults → RisesBy most old m2.store.faults) → (d : Draws) → AreDraws m0.engine d → Given d (indexes_of m0.engine)
-        → AreSeen (StopsWithin ending (RisesBy most old m2.store.faults) (Full m2)) (seats_at m0 entries) m0.gathered.batch spelt answers (seen ++ last)
-    pub aloft : LeavesAloft ending m2.store.asked (drop (length seen) (seats_at m0 entries)) (statements (drop (length texts) spelt)) last
-    pub on : GoesOn (drop (length seen) (seats_at m0 entries)) ⊎ Lost
+        → AreSeen (StopsWithin ending (RisesBy most old m2.store.faults) (Full m2)) (positions_at m0 entries) m0.gathered.batch spelt answers (seen ++ last)
+    pub aloft : LeavesInFlight ending m2.store.asked (drop (length seen) (positions_at m0 entries)) (statements (drop (length texts) spelt)) last
+    pub on : GoesOn (drop (length seen) (positions_at m0 entries)) ⊎ Lost
     pub passed : m1.store.asked ≡ m0.store.asked ++ trace_at m0 (whole_of (length seen) entries)
     pub stands : public_of m1.engine ≡ after_entries m0.flights.words 0 (public_of m0.engine) (whole_of (length seen) entries)
     pub asked : m2.store.asked ≡ m0.store.asked ++ trace_at m0 entries
@@ -160,17 +160,17 @@ module _ {R : Type 0} (state : R → RevState) where
     pub public : EndsWhole ending → public_of m2.engine ≡ after_entries m0.flights.words 0 (public_of m0.engine) entries
     pub save : (public_of m1.engine).save ≡ (public_of m0.engine).save
     pub unfailed : any_cut (seen ++ last) ≡ false → m2.store.faults ≡ m0.store.faults
-    pub cuts : RisesBy (cut_off seen + cut_aloft (drop (length seen) (seats_at m0 entries)) last) m0.store.faults m2.store.faults
+    pub cuts : RisesBy (cut_off seen + cut_in_flight (drop (length seen) (positions_at m0 entries)) last) m0.store.faults m2.store.faults
     pub failed : (public_of m0.engine).batch ≡ None → RisesBy (failures answers) m0.store.faults m2.store.faults
-    pub drawn : (d : Draws) → AreDraws m0.engine d → (g : Given d (indexes_of m0.engine)) → Reads d (indexes_of m0.engine) g (seats_at m0 entries) (seen ++ last)
-    pub lie : (lie : Lie) → m0.store.lie ≡ Some lie → m2.store.lie ≡ Some lie
-    pub meant : (d : Draws) → AreDraws m0.engine d → IsTrue m0.store.tells → Calm (world m0) → IsUnfit (world m2) → (tables : Tables) → Holds state m0 d tables
-        → Told ending (seats_at m0 entries) (session_of m0 d tables) spelt answers (seen ++ last) part (Behind ending m0 m2 d tables (seats_at m0 entries) spelt answers)
+    pub drawn : (d : Draws) → AreDraws m0.engine d → (g : Given d (indexes_of m0.engine)) → Reads d (indexes_of m0.engine) g (positions_at m0 entries) (seen ++ last)
+    pub lie : (lie : FalseRead) → m0.store.lie ≡ Some lie → m2.store.lie ≡ Some lie
+    pub meant : (d : Draws) → AreDraws m0.engine d → IsTrue m0.store.tells → Untampered (world m0) → IsUnfit (world m2) → (tables : Tables) → Holds state m0 d tables
+        → Told ending (positions_at m0 entries) (session_of m0 d tables) spelt answers (seen ++ last) part (AfterTexts ending m0 m2 d tables (positions_at m0 entries) spelt answers)
     pub untampered : (d : Draws) → AreDraws m0.engine d → IsTrue m0.store.tells → (tables : Tables) → Holds state m0 d tables → m2.store.lie ≡ None → EndsUntampered ending
     pub early : EarlyAt m0 m2 entries spelt answers (seen ++ last)
     pub along : Along state ending m0 m2 spelt answers
 
-  -- ---- behind the texts that were answered
+  -- ---- after the texts that were answered
   follow_none : (texts : List (List ℕ)) (owed : List Owed) → owed ≡ [] → SpellFirst texts (map Ok (statements_of owed))
   unfolding SpellFirst
   follow_none texts owed none = subst (λ (l : List Owed). SpellFirst texts (map Ok (statements_of l))) (sym none) tt
@@ -182,7 +182,7 @@ module _ {R : Type 0} (state : R → RevState) where
 
   -- nothing was done
   pub walked_none : {Lost : Type 0} (ending : Ending) (m0 m2 : Machine R) (more : List (List ℕ)) (part : List ℕ) → IsUndone m0 m2 part → EndsUntampered ending → (ends_within ending ≡ true → ⊥) → Walked Lost ending m0 m0 m2 [] more [] part
-  unfolding SpellFirst AreSeen AnswersFrom any_cut statements seats trace_in whole_of session_after after_entries MeantUntil
+  unfolding SpellFirst AreSeen AnswersFrom any_cut statements positions trace_in whole_of session_after after_entries MeantUntil
   walked_none ending m0 m2 more part rests fine off =
       let same = rests.machine in
       record {
@@ -213,7 +213,7 @@ module _ {R : Type 0} (state : R → RevState) where
         unfailed = λ not. ap (λ (m : Machine R). m.store.faults) same;
         cuts = cuts_none _ _ (let still = ap (λ (m : Machine R). m.store.faults) same in omega (arith, still));
         failed = λ alone. fails_none _ _ (let still = ap (λ (m : Machine R). m.store.faults) same in omega (arith, still));
-        drawn = λ d drawn g. reads_none d (indexes_of m0.engine) g (seats_at m0 []);
+        drawn = λ d drawn g. reads_none d (indexes_of m0.engine) g (positions_at m0 []);
         lie = λ lie is. ap (λ (m : Machine R). m.store.lie) same ∙ is;
         meant = λ d drawn tells calm unfit tables held. record {
           broken = [];
@@ -224,7 +224,7 @@ module _ {R : Type 0} (state : R → RevState) where
           };
         };
         untampered = λ d drawn tells tables held honest. fine;
-        early = λ d drawn tells steady tables held sound n before few. early_still n (most_at m0) m0.flights.words m0.gathered.batch (seats_at m0 []) (session_of m0 d tables) m0.store.asked m2.store.asked [] [] tt (ap (λ (m : Machine R). m.store.asked) same) few;
+        early = λ d drawn tells steady tables held sound n before few. early_still n (most_at m0) m0.flights.words m0.gathered.batch (positions_at m0 []) (session_of m0 d tables) m0.store.asked m2.store.asked [] [] tt (ap (λ (m : Machine R). m.store.asked) same) few;
       }
 
   -- a stop that comes within a statement alone comes where it may
@@ -288,7 +288,7 @@ module _ {R : Type 0} (state : R → RevState) where
 
   stopped_part : (m0 m2 : Machine R) (tables : Tables) (text : List ℕ) (run : RunStop) (part : List ℕ) → (d : Draws) → AreDraws m0.engine d → (cut : CutStep state m0 m2 text run part)
       → ReadsTrueUntil state m0.engine m0.store m2.engine m2.store tables
-      → BeginsAnswer (Ran (Err (session_stop run))) (seat_alone (public_of m0.engine) (asked_of m0) (record { skeleton = skeleton cut.stmt; seen = seen_of m2.engine }) ∷ []) (session_of m0 d tables) (Ok cut.stmt) [] (record { skeleton = skeleton cut.stmt; seen = seen_of m2.engine } ∷ []) part
+      → BeginsAnswer (Ran (Err (session_stop run))) (position_alone (public_of m0.engine) (asked_of m0) (record { skeleton = skeleton cut.stmt; seen = seen_of m2.engine }) ∷ []) (session_of m0 d tables) (Ok cut.stmt) [] (record { skeleton = skeleton cut.stmt; seen = seen_of m2.engine } ∷ []) part
   stopped_part m0 m2 tables text run part d drawn cut reads =
       let n = length m2.store.asked - length m0.store.asked in
       let seen_is = cut.does.means.held tables d drawn reads in
@@ -309,7 +309,7 @@ module _ {R : Type 0} (state : R → RevState) where
 
   pub walked_cut : {Lost : Type 0} (m0 m2 : Machine R) (text : List ℕ) (more : List (List ℕ)) (run : RunStop) (part : List ℕ) → Follow (text ∷ more) m2.owed → CutStep state m0 m2 text run part
       → Walked Lost (Ran (Err (session_stop run))) m0 m0 m2 [] (text ∷ more) [] part
-  unfolding SpellFirst AreSeen AnswersFrom any_cut statements seats trace_in whole_of session_after after_entries MeantUntil
+  unfolding SpellFirst AreSeen AnswersFrom any_cut statements positions trace_in whole_of session_after after_entries MeantUntil
   walked_cut m0 m2 text more run part follow cut =
       let sk = skeleton cut.stmt in
       let here = seen_of m2.engine in
@@ -382,7 +382,7 @@ module _ {R : Type 0} (state : R → RevState) where
   both_of true a b c e x y = (x, y)
   both_of false a b c e x y = (x, y)
 
-  -- where it stands behind one that the store didn't fail
+  -- where it stands after one that the store didn't fail
   held_behind : (m0 m1 : Machine R) (d : Draws) (tables : Tables) (stmt : Stmt) (outcome : Outcome) → Owes m0 m1 stmt d tables → Meant state stmt (statements_of m1.owed) (asked_of m0) d tables outcome m0.engine m1.engine m1.store
       → Holds state m1 (draws_behind m0 m1 stmt d) (settled_by m0 stmt d tables)
   held_behind m0 m1 d tables stmt outcome owes meant = record { listed = owes.listed; held = subst (Represents state m1.engine m1.store) (sym owes.same) meant.held; owed = owes.answered }
@@ -422,7 +422,7 @@ module _ {R : Type 0} (state : R → RevState) where
       ]
 
   pub reads_true : (m0 m1 : Machine R) (tables : Tables) (text : List ℕ) (one : Answer) (did : ServedStatement state m0 m1 text one) → IsTrue m0.store.tells → Represents state m0.engine m0.store tables
-      → Calm (world m0) → IsUnfit (world m1) → ReadsTrue state m0.engine m0.store m1.store tables
+      → Untampered (world m0) → IsUnfit (world m1) → ReadsTrue state m0.engine m0.store m1.store tables
   reads_true m0 m1 tables text one did tells held calm unfit = record { tells = tells; held = held; nolie = unfit_none (world m1) (did.does.ran.cause.1 calm) unfit }
 
   -- a text was answered, and a sink failed
@@ -434,7 +434,7 @@ module _ {R : Type 0} (state : R → RevState) where
 
   walked_done : {Lost : Type 0} (m0 m2 : Machine R) (text : List ℕ) (more : List (List ℕ)) (run : RunStop) (one : Answer) (part : List ℕ) → part ≡ one.bytes → run ≡ Runs.SinkFault → Follow (text ∷ more) m2.owed → ServedStatement state m0 m2 text one
       → Walked Lost (Ran (Err (session_stop run))) m0 m0 m2 [] (text ∷ more) [] part
-  unfolding SpellFirst AreSeen AnswersFrom any_cut statements seats trace_in whole_of session_after after_entries MeantUntil
+  unfolding SpellFirst AreSeen AnswersFrom any_cut statements positions trace_in whole_of session_after after_entries MeantUntil
   walked_done m0 m2 text more run one part is fault follow did =
       let sk = skeleton did.stmt in
       let here = seen_of m2.engine in
@@ -499,7 +499,7 @@ module _ {R : Type 0} (state : R → RevState) where
 
   walked_refused : {Lost : Type 0} (ending : Ending) (m0 m2 : Machine R) (text : List ℕ) (more : List (List ℕ)) (one : Answer) (part : List ℕ) → part ≡ one.bytes → StaysAs m0 m2 → Misspelt m0 m2 text one → EndsUntampered ending → (ends_within ending ≡ true → ⊥)
       → Walked Lost ending m0 m0 m2 [] (text ∷ more) [] part
-  unfolding SpellFirst AreSeen AnswersFrom any_cut statements seats trace_in whole_of session_after after_entries MeantUntil
+  unfolding SpellFirst AreSeen AnswersFrom any_cut statements positions trace_in whole_of session_after after_entries MeantUntil
   walked_refused ending m0 m2 text more one part is same bad fine off = record {
     spelt = Err bad.at ∷ [];
     spells = (bad.spells, tt);
@@ -528,7 +528,7 @@ module _ {R : Type 0} (state : R → RevState) where
     unfailed = λ not. ap (λ (m : Machine R). m.store.faults) same;
     cuts = cuts_none _ _ (let still = ap (λ (m : Machine R). m.store.faults) same in omega (arith, still));
     failed = λ alone. fails_none _ _ (let still = ap (λ (m : Machine R). m.store.faults) same in omega (arith, still));
-    drawn = λ d drawn g. reads_none d (indexes_of m0.engine) g (seats_at m0 []);
+    drawn = λ d drawn g. reads_none d (indexes_of m0.engine) g (positions_at m0 []);
     lie = λ lie it. ap (λ (m : Machine R). m.store.lie) same ∙ it;
     meant = λ d drawn tells calm unfit tables held. record {
       broken = [];
@@ -539,13 +539,13 @@ module _ {R : Type 0} (state : R → RevState) where
       };
     };
     untampered = λ d drawn tells tables held honest. fine;
-    early = λ d drawn tells steady tables held sound n before few. early_still n (most_at m0) m0.flights.words m0.gathered.batch (seats_at m0 []) (session_of m0 d tables) m0.store.asked m2.store.asked (Err bad.at ∷ []) [] tt (ap (λ (m : Machine R). m.store.asked) same) few;
+    early = λ d drawn tells steady tables held sound n before few. early_still n (most_at m0) m0.flights.words m0.gathered.batch (positions_at m0 []) (session_of m0 d tables) m0.store.asked m2.store.asked (Err bad.at ∷ []) [] tt (ap (λ (m : Machine R). m.store.asked) same) few;
   }
 
   -- one that was carried out with the INSERT before it was answered, and a sink failed
   walked_with : {Lost : Type 0} (m0 m2 : Machine R) (text : List ℕ) (more : List (List ℕ)) (run : RunStop) (one : Answer) (part : List ℕ) → part ≡ one.bytes → run ≡ Runs.SinkFault → Follow (text ∷ more) m2.owed → StaysAs m0 m2 → ServedWith m0 m2 text one
       → Walked Lost (Ran (Err (session_stop run))) m0 m0 m2 [] (text ∷ more) [] part
-  unfolding SpellFirst AreSeen AnswersFrom any_cut statements seats trace_in whole_of session_after after_entries MeantUntil
+  unfolding SpellFirst AreSeen AnswersFrom any_cut statements positions trace_in whole_of session_after after_entries MeantUntil
   walked_with m0 m2 text more run one part is fault follow same with =
       let sk = skeleton with.stmt in
       let here = seen_with state m0 m2 text one with in
@@ -590,7 +590,7 @@ module _ {R : Type 0} (state : R → RevState) where
         unfailed = λ not. still;
         cuts = cuts_none _ _ (omega (arith, still));
         failed = λ alone. fails_none _ _ (omega (arith, still));
-        drawn = λ d drawn g. reads_unasked d (indexes_of m0.engine) g (seat_alone (public_of m0.engine) (asked_of m0) (record { skeleton = sk; seen = here })) [] (record { skeleton = sk; seen = here }) [] refl (reads_none d (indexes_of m0.engine) g []);
+        drawn = λ d drawn g. reads_unasked d (indexes_of m0.engine) g (position_alone (public_of m0.engine) (asked_of m0) (record { skeleton = sk; seen = here })) [] (record { skeleton = sk; seen = here }) [] refl (reads_none d (indexes_of m0.engine) g []);
         lie = λ lie it. ap (λ (m : Machine R). m.store.lie) same ∙ it;
         meant = λ d drawn tells calm unfit tables held.
             let by = means_with state m0 m2 text one with same d tables held in

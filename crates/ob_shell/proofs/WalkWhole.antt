@@ -1,4 +1,4 @@
--- A walk over all texts that were answered, one by one, or several together, and the last part behind them.
+-- A walk over all texts that were answered, one by one, or several together, and the last part after them.
 use Rattle.ob_shell.proofs.Words.{Answer, append_assoc, at_rest, Ending, inl, inr, List, Machine, more_together, one_more, RevState, Step, Steps, StepTogether, subst, sym, ℕ, ◌++◌, ◌∷◌}
 use Rattle.ob_shell.proofs.FlightMore.{at_turn, more_flown, spelt_up, up}
 use Rattle.ob_shell.proofs.WalkLemmas.{EarlyAt, Walked}

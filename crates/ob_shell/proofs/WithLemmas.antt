@@ -1,5 +1,5 @@
 -- One statement that was carried out with the INSERT before it, by its meaning.
-use Rattle.ob_shell.proofs.Words.{access_public, after, Answer, ap, asked_of, begins_batch, Bool, closing_line, Draws, early_refusal, events_text, false, Gathered, Gathering, Heading, headings, headings_of, How, if◌then◌else◌, inserts_into, is_cut, is_fault, is_full_now, is_joined, is_late, is_some, IsTrue, Joined, limits_of, List, Machine, may_fly, next, None, Option, option_map, option_map_or, Outcome, outcome_of, place_now, Public, public_of, refl, Refusal, refusal_now, Refused, Represents, RevState, script, Seen, seen_or_cut, Session, session_of, settle_all, skeleton, Some, statements_of, Stmt, subst, sym, Tables, true, ℕ, [], ◌&&◌, ◌++◌, ◌∙◌, ◌≡◌}
+use Rattle.ob_shell.proofs.Words.{access_public, after, Answer, ap, asked_of, begins_batch, Bool, closing_line, Draws, early_refusal, events_text, false, Gathered, Gathering, Heading, headings, headings_of, How, if◌then◌else◌, inserts_into, is_cut, is_fault, is_full_now, is_joined, is_late, is_some, IsTrue, Batched, limits_of, List, Machine, may_fly, next, None, Option, option_map, option_map_or, Outcome, outcome_of, place_now, Public, public_of, refl, Refusal, refusal_now, Refused, Represents, RevState, script, Seen, seen_or_cut, Session, session_of, settle_all, skeleton, Some, statements_of, Stmt, subst, sym, Tables, true, ℕ, [], ◌&&◌, ◌++◌, ◌∙◌, ◌≡◌}
 use Rattle.std.specs.Prelude.{◌↔◌, IsSome}
 use Rattle.std.specs.Option.{is_none}
 use Rattle.ob_base.specs.declared.refusal.Refusal.TheVariants.{StoreFault}
@@ -171,7 +171,7 @@ module _ {R : Type 0} (state : R → RevState) (m0 m1 : Machine R) (text : List 
   next_with = go (refusal_now p m stmt)
     where
       go : (o : Option Refusal) → next p (skeleton stmt) (seen_to (end_with o)) ≡ p
-      go None = stays_public p (skeleton stmt) (seen_to Joined) refl
+      go None = stays_public p (skeleton stmt) (seen_to Batched) refl
       go (Some r) = static_stays p (skeleton stmt)
 
   pub uncut_with : is_cut seen_with.end ≡ false

@@ -26,7 +26,7 @@ pub use Rattle.ob_base.specs.declared.refusal.Stop.{Stop}
 pub use Rattle.ob_base.specs.declared.schema.Heading.{Heading}
 pub use Rattle.ob_base.specs.declared.schema.Table.{Table}
 pub use Rattle.ob_base.specs.declared.seen.End.{End}
-pub use Rattle.ob_base.specs.declared.seen.End.TheVariants.{AfterCount, Cut, Joined, Static, Whole}
+pub use Rattle.ob_base.specs.declared.seen.End.TheVariants.{AfterCount, Cut, Batched, Static, Whole}
 pub use Rattle.ob_base.specs.declared.seen.Seen.{Seen}
 pub use Rattle.ob_base.specs.declared.skeleton.Skeleton.{Skeleton}
 pub use Rattle.ob_exec.proofs.FlightLists.{served_long}
@@ -38,13 +38,13 @@ pub use Rattle.ob_gen.specs.Tally.{empty_tally}
 pub use Rattle.ob_gen.specs.declared.tally.Tally.{Tally}
 pub use Rattle.ob_headline.proofs.FullLemmas.{met_script}
 pub use Rattle.ob_headline.specs.Bases.{Base, flying, fresh, FromEach}
-pub use Rattle.ob_headline.specs.Batches.{AnsweredBut}
+pub use Rattle.ob_headline.specs.Batches.{AnsweredExcept}
 unfoldable pub use Rattle.ob_headline.specs.Batches.{AllInsert}
 pub use Rattle.ob_headline.specs.Closing.{closing_line}
 pub use Rattle.ob_headline.specs.Endings.{is_tampered, last_line, status_of}
 pub use Rattle.ob_headline.specs.Failures.{RisesBy}
 unfoldable pub use Rattle.ob_headline.specs.Failures.{cut_off}
-pub use Rattle.ob_headline.specs.Flights.{gathered_then, may_fly, most_flown, place_now, Seat}
+pub use Rattle.ob_headline.specs.Flights.{gathered_then, may_fly, most_flown, place_now, Position}
 pub use Rattle.ob_headline.specs.Headline.{Headline}
 pub use Rattle.ob_headline.specs.Meaning.{PrintsUntil}
 pub use Rattle.ob_headline.specs.Saving.{RestsAlike}
@@ -89,7 +89,7 @@ pub use Rattle.ob_sql.specs.Skeleton.{skeleton}
 pub use Rattle.ob_sql.specs.declared.stmt.Stmt.{Stmt}
 pub use Rattle.ob_store.specs.Calls.{IsBefore, IsSteady}
 pub use Rattle.ob_store.specs.Runs.{Since}
-pub use Rattle.ob_store.specs.State.{Disturbance, KeptRegion, Lie, StoreState}
+pub use Rattle.ob_store.specs.State.{Disturbance, KeptRegion, FalseRead, StoreState}
 pub use Rattle.ob_tables.proofs.CutLemmas.{end_cut}
 pub use Rattle.ob_tables.proofs.HeldLemmas.{held_headings}
 pub use Rattle.ob_tables.specs.Agreeing.{Agrees, AreDraws, count_of, engine_keys, engine_start, first_draws, high_of, indexes_of, opened_from, public_of, rows_of, seen_of, world_of}
@@ -106,7 +106,7 @@ pub use Rattle.ob_verdict.specs.Outcomes.{by_fault, outcome_of, refusal_now}
 pub use Rattle.ob_verdict.specs.declared.outcome.Outcome.{Outcome}
 pub use Rattle.ob_verdict.specs.declared.outcome.Outcome.TheVariants.{Refused}
 pub use Rattle.ob_words.specs.declared.words.WordsErr.{WordsErr}
-pub use Rattle.ob_shell.specs.Aloft.{answer_of, RanAloft}
+pub use Rattle.ob_shell.specs.FlightAnswers.{answer_of, RanInFlight}
 pub use Rattle.ob_shell.specs.Closed.{LineWritten, refused_by, Unwritten}
 pub use Rattle.ob_shell.specs.Feeding.{Fed, Fetch, IsFedBy}
 pub use Rattle.ob_shell.specs.Flying.{flights_at, flights_of}

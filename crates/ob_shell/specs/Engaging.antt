@@ -1,4 +1,4 @@
--- The engine of a run whose tables are kept: how it is had, and what is done with it; all but the last line.
+-- The engine of a run whose tables are kept: how it is had, and what is done with it; all except the last line.
 use Rattle.std.specs.Prelude.{ℕ, ◌≡◌, ◌≢◌, ◌≤◌, ◌<◌, ◌+◌, ◌^◌, ◌⊎◌, Bool, true, false, List, [], length, Option, None, Some, Result, Ok, Err, IfErr, IfOk}
 use Rattle.std.specs.Io.KnownBytes.{Consumes}
 use Rattle.ob_base.specs.Counts.{Rises}
@@ -126,7 +126,7 @@ pub record ClosedRun (base : Base) (keys : KeySet) (tracing : Bool) (tally : Tal
   pub rows : ended.high ≡ high
   pub counted : ended.ending ≡ Plain (Ran (Ok (has_refused tally))) → ended.tally ≡ tally
 
--- texts were served with the engine until a stop came, and nothing was done behind that
+-- texts were served with the engine until a stop came, and nothing was done after that
 pub record StopsRun {R : Type 0} (state : R → RevState) (base : Base) (key : List ℕ)
     (tracing : Bool) (ended : KeptEnded)
     (feed0 feed1 : Fetch) (left0 left1 : Option (List ℕ)) (gave : ℕ)
@@ -205,7 +205,7 @@ KeptConcludedBy NotClosed quiet tally asked w0 w1 f0 f1 status =
 KeptConcludedBy KeeperFault quiet tally asked w0 w1 f0 f1 status =
     KeptClosedBy KeeperFault quiet w0 w1 f0 f1 status
 
--- ---- the whole run, but for its last line
+-- ---- the whole run, except for its last line
 -- neither the keeper nor the store was asked for anything
 pub record RanUnkeyed (config : Config) (flight : Option FlightSettings) (tracing : Bool)
     (ended : KeptEnded) (old new : Outside) (keeper0 keeper1 : KeeperState) : Type 0 where
@@ -299,7 +299,7 @@ RanKept config flight tracing ended old new keeper0 keeper1 =
     ⊎ (RanStopped config flight tracing ended old new keeper0 keeper1
     ⊎ RanWhole config flight tracing ended old new keeper0 keeper1))
 
--- over the text that is generated from this seed, and what was written behind it
+-- over the text that is generated from this seed, and what was written after it
 pub record GeneratedBy (Ran : KeptEnded → (old new : Outside) → Type 0) (seed : Seed)
     (traced0 traced1 : Option (List ℕ)) (store0 store1 : StoreState) (trace0 trace1 : ℕ)
     (written0 written1 : Option (List ℕ)) (out0 out1 : ℕ) (report : Report) : Type 0 where

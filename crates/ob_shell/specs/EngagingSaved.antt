@@ -1,4 +1,4 @@
--- The engine of a run whose tables are saved: how it is had, and what is done with it; all but the last line.
+-- The engine of a run whose tables are saved: how it is had, and what is done with it; all except the last line.
 use Rattle.std.specs.Prelude.{ℕ, ◌≡◌, ◌⊎◌, ◌≤◌, ⊤, Bool, true, false, List, [], length, Option, Some, None, Result, Ok, IfErr, IfOk}
 use Rattle.std.specs.Io.KnownBytes.{Consumes}
 use Rattle.ob_base.specs.Counts.{Rises}
@@ -152,8 +152,8 @@ pub record EndsUnsaved (config : Config) (secret : List ℕ) (tracing : Bool) (e
   pub high : ended.high ≤ 1
 
 -- ---- a session
--- texts were served with the engine, and nothing was done behind that; where the keeper told what it held, it holds a mark
--- for which the tables rest behind them
+-- texts were served with the engine, and nothing was done after that; where the keeper told what it held, it holds a mark
+-- for which the tables rest after them
 pub record ServesSaved {R : Type 0} (state : R → RevState) (base : Base) (keys : KeySet)
     (secret salt : List ℕ) (tracing : Bool) (ended : KeptEnded)
     (feed0 feed1 : Fetch) (left0 left1 : Option (List ℕ)) (gave : ℕ)
@@ -173,7 +173,7 @@ pub record ServesSaved {R : Type 0} (state : R → RevState) (base : Base) (keys
   pub leaves : Told → LeavesSaved secret salt base keys (Ran (flagged result)) ran.story
       begun new keeper0 keeper1
 
--- ---- the whole run, but for its last line
+-- ---- the whole run, except for its last line
 -- the first line was taken, and no statement was served
 pub record RanUnsaved (config : Config) (tracing : Bool) (ended : KeptEnded) (old new : Outside)
     (keeper0 keeper1 : KeeperState) : Type 0 where
@@ -225,7 +225,7 @@ RanSaved config flight tracing ended old new keeper0 keeper1 =
     ⊎ (RanUnsaved config tracing ended old new keeper0 keeper1
     ⊎ RanSession config flight tracing ended old new keeper0 keeper1)
 
--- over the text that is generated from a seed, and what was written behind it
+-- over the text that is generated from a seed, and what was written after it
 abbrev pub SavedGenerated : (config : Config) (flight : Option FlightSettings) (tracing : Bool)
     (seed : Seed) (traced0 traced1 : Option (List ℕ)) (store0 store1 : StoreState)
     (trace0 trace1 : ℕ) (keeper0 keeper1 : KeeperState) (written0 written1 : Option (List ℕ))

@@ -7,7 +7,7 @@ use Rattle.ob_gen.specs.declared.tally.Tally.{Tally}
 use Rattle.ob_headline.specs.Words.{Answer, Faults, printed}
 use Rattle.ob_headline.specs.declared.flight.FlightSettings.{FlightSettings}
 use Rattle.ob_script.specs.Flights.{drawn}
-use Rattle.ob_shell.specs.Aloft.{AnswersFlight, CutsFlight, FlewWhole}
+use Rattle.ob_shell.specs.FlightAnswers.{AnswersFlight, CutsFlight, FlewWhole}
 use Rattle.ob_shell.specs.Running.{OutFailed, Silenced, StopCause, halted_of, is_quiet, stop_of}
 use Rattle.ob_shell.specs.Steps.{Flights}
 use Rattle.ob_shell.specs.Tallies.{tally_after}
@@ -21,11 +21,11 @@ use Rattle.ob_turns.specs.Kept.{outcomes_of}
 use Rattle.ob_vault.specs.State.{RevState}
 use Rattle.ob_verdict.specs.declared.outcome.Outcome.{Outcome}
 
--- so SELECTs fly by these settings, with the words behind this number
+-- so SELECTs fly by these settings, with the words after this number
 abbrev pub flights_of : Option FlightSettings → (last : ℕ) → Flights
 flights_of settings last = record { settings = settings; words = drawn last }
 
--- and the words of a run begin behind this one
+-- and the words of a run begin after this one
 abbrev pub start_of : Option FlightSettings → ℕ
 start_of settings = option_map_or (λ (f : FlightSettings). f.start) settings 0
 

@@ -101,7 +101,7 @@ pub record IsUnread (old new : Outside) : Type 0 where
   pub gave : new.gave ≡ old.gave
   pub source : new.faults.source ≡ old.faults.source
 
--- a program ran over the text that is generated from this seed: of all but the input and the sink of the answers the
+-- a program ran over the text that is generated from this seed: of all except the input and the sink of the answers the
 -- headline holds, with this text as input; and what is written is its summary, by what was counted of its answers, or
 -- its last line
 pub record Summarized (Takes : Type 0) (settings : Option Config)

@@ -1,4 +1,4 @@
--- What rests for the mark that a keeper holds while statements are served behind which tables are saved.
+-- What rests for the mark that a keeper holds while statements are served after which tables are saved.
 use Rattle.std.specs.Prelude.{ℕ, ◌≡◌, ◌⊎◌, ◌<◌, true, List, [], Option, Some}
 use Rattle.ob_base.specs.declared.config.Public.{Public}
 use Rattle.ob_reopen.specs.declared.mark.Mark.{Mark}

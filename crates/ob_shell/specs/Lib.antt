@@ -1,5 +1,5 @@
 pub mod Flying
-pub mod Aloft
+pub mod FlightAnswers
 pub mod Feeding
 pub mod Engaging
 pub mod KeptSummary

@@ -7,7 +7,7 @@ use Rattle.ob_headline.specs.Words.{Answer, Faults, SinksRose, Took, printed}
 use Rattle.ob_print.specs.Cuts.{Outputs}
 use Rattle.ob_verdict.specs.declared.outcome.Outcome.{Outcome}
 
--- an answer of which nothing but its line is printed, and no plan is seen
+-- an answer of which nothing except its line is printed, and no plan is seen
 abbrev pub line_answer : Outcome → Answer
 line_answer outcome = record { outcome = outcome; bytes = closing_line outcome; plan = None }
 
@@ -24,7 +24,7 @@ pub record LinesCut (outcomes : List Outcome) (written0 written1 : Option (List 
   pub whole : Took written0 written1 (printed (line_answers done))
   pub cut : Outputs written0 written1 Lost (printed (line_answers done) ++ closing_line one)
 
--- the same of a batch whose accesses are traced behind its first line: that was done where a line was lost behind it
+-- the same of a batch whose accesses are traced after its first line: that was done where a line was lost after it
 pub record BatchCut (outcomes : List Outcome) (written0 written1 traced0 traced1 : Option (List ℕ))
     (text : List ℕ) (out0 out1 : ℕ) : Type 0 where
   pub lines : LinesCut outcomes written0 written1 (Rises out0 out1)

@@ -70,7 +70,7 @@ pub record Meddled (words : List Text) (old : StoreState → Outside) (new : Out
   -- until the first change all is as it is meant
   pub always : (n : ℕ) → are_later (list_of store) n ≡ true
       → Until (meddle_base words) (keys_in headline.taken) n headline.story new.store.asked
-  -- so is the whole run, where all changes come behind the accesses that its statements ask by their meaning
+  -- so is the whole run, where all changes come after the accesses that its statements ask by their meaning
   pub undisturbed : (n : ℕ) → are_later (list_of store) n ≡ true
       → length (meant_trace (meddle_base words) (keys_in headline.taken) headline.story.spelt) ≤ n
       → Undisturbed headline.story.answers start new.store report

@@ -14,7 +14,7 @@ use Rattle.ob_tables.specs.declared.stop.RunStop.TheVariants as Runs
 use Rattle.ob_gen.specs.declared.tally.Tally.{Tally}
 use Rattle.ob_headline.specs.Texts.{is_over, rest_of, texts_of, texts_in}
 use Rattle.ob_gen.specs.Tally.{empty_tally}
-use Rattle.ob_headline.specs.Batches.{AnsweredBut}
+use Rattle.ob_headline.specs.Batches.{AnsweredExcept}
 use Rattle.ob_headline.specs.Flights.{most_flown}
 use Rattle.ob_headline.specs.declared.flight.FlightSettings.{FlightSettings}
 use Rattle.ob_headline.specs.Status.{StaysAlone}
@@ -73,7 +73,7 @@ Silenced false old new = (new.out ≡ old.out) × (new.trace ≡ old.trace)
 abbrev pub OutFailed : (quiet : Bool) → (old new : ℕ) → Type 0
 OutFailed quiet old new = (quiet ≡ true) × Rises old new
 
--- when each stop comes: only where that count rose; those of the sinks may have risen behind a stop by a block, for want of
+-- when each stop comes: only where that count rose; those of the sinks may have risen after a stop by a block, for want of
 -- memory, by the store, for a full stash or by the keeper; where statements may wait to be served together while more is read,
 -- the source may have failed before one of them was stopped
 abbrev pub StopCause : {T : Type 0} (Alone : Type 0) (old new : Faults) → Result T Stop → Type 0
@@ -97,7 +97,7 @@ StopCause Alone old new (Err KeeperFault) = StaysAlone Alone old.source new.sour
 abbrev pub ServesAlone : Option FlightSettings → Public → Type 0
 ServesAlone settings p = (p.batch ≡ None) × (most_flown settings p ≡ 1)
 
--- what was done while no stop came: these bytes were passed on, and their texts served, but for those that wait
+-- what was done while no stop came: these bytes were passed on, and their texts served, except for those that wait
 pub record SoFar {R : Type 0} (state : R → RevState) (feed0 feed1 : Fetch)
     (left0 left1 written0 written1 : Option (List ℕ)) (pending : List ℕ) (batch : List Stmt)
     (tally : Tally) (m0 m1 : Machine R) : Type 0 where
@@ -155,7 +155,7 @@ pub record SessionRan {R : Type 0} (state : R → RevState) (tracing : Bool) (fe
   pub more : List (List ℕ)
   pub texts : texts_in ended (feed0.unread ++ piece) ≡ served ++ more
   pub middle : Machine R
-  pub prompt : AnsweredBut (public_of middle.engine) (batch_most (public_of m0.engine))
+  pub prompt : AnsweredExcept (public_of middle.engine) (batch_most (public_of m0.engine))
       (most_flown m0.flights.settings (public_of m0.engine))
       (texts_in false (before_read gave (feed0.unread ++ piece))) served
   pub answers : List Answer

@@ -1,4 +1,4 @@
--- A run that neither keeps nor saves its tables, by a salt that its keeper draws; all but the last line.
+-- A run that neither keeps nor saves its tables, by a salt that its keeper draws; all except the last line.
 use Rattle.std.specs.Prelude.{ℕ, ◌≡◌, ◌⊎◌, ◌≤◌, Bool, true, false, List, [], length, Option, Some, Result, Ok, Err}
 use Rattle.std.specs.Io.KnownBytes.{Consumes}
 use Rattle.ob_base.specs.Publics.{first_public}
@@ -73,7 +73,7 @@ RanSalted config flight tracing ended old new keeper0 keeper1 =
     ⊎ (RanUndrawn config ended old new keeper0 keeper1
     ⊎ RanDrawn config flight tracing ended old new keeper0 keeper1)
 
--- over the text that is generated from a seed, and what was written behind it
+-- over the text that is generated from a seed, and what was written after it
 abbrev pub SaltedGenerated : (config : Config) (flight : Option FlightSettings) (tracing : Bool)
     (seed : Seed) (traced0 traced1 : Option (List ℕ)) (store0 store1 : StoreState)
     (trace0 trace1 : ℕ) (keeper0 keeper1 : KeeperState) (written0 written1 : Option (List ℕ))

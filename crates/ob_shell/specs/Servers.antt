@@ -16,7 +16,7 @@ module _ {R S B K T D : Type 0} (state : S → StoreState) (keeper : B → Keepe
   -- with a session
   abbrev pub here_of : Manner → Server R S B K T D → Session → Here R
   here_of manner s session = record {
-    machine = machine_of s.engine.now (state s.store.now) (keeper s.behind.now)
+    machine = machine_of s.engine.now (state s.store.now) (keeper s.commit.now)
         (flights_of manner.flight session.turns.last);
     written = written s.out.now;
     traced = traced s.trace.now;
@@ -30,8 +30,8 @@ pub record KeepsServer {R S B K T D : Type 0} (name : B → ℕ) (s t : Server R
     : Type 0 where
   pub engine : t.engine.ghost_name ≡ s.engine.ghost_name
   pub store : t.store.ghost_name ≡ s.store.ghost_name
-  pub behind : t.behind.ghost_name ≡ s.behind.ghost_name
+  pub commit : t.commit.ghost_name ≡ s.commit.ghost_name
   pub out : t.out.ghost_name ≡ s.out.ghost_name
   pub trace : t.trace.ghost_name ≡ s.trace.ghost_name
   pub digest : t.digest.ghost_name ≡ s.digest.ghost_name
-  pub keeper : name t.behind.now ≡ name s.behind.now
+  pub keeper : name t.commit.now ≡ name s.commit.now

@@ -23,14 +23,14 @@ use Rattle.ob_tables.specs.Agreeing.{public_of}
 use Rattle.ob_tables.specs.Stops.{session_stop}
 use Rattle.ob_vault.specs.State.{RevState}
 
--- this was done of a text that spells this statement, where it may come behind what is gathered, and the engine may be given the
--- next one, behind which this saves tables where they are to be saved; or a stop came within it, which has its cause
+-- this was done of a text that spells this statement, where it may come after what is gathered, and the engine may be given the
+-- next one, after which this saves tables where they are to be saved; or a stop came within it, which has its cause
 pub record ServesStmt {R T : Type 0} (state : R → RevState) (Saves : Type 0)
     (May : Gathered → Type 0) (stmt : Stmt) (Done : List ℕ → T → (m0 m1 : Machine R) → Type 0)
     (written0 written1 : Option (List ℕ)) (old new : Faults) (m0 m1 : Machine R)
     (result : Result T TextHalted) : Type 0 where
   pub ready : OnOk result (IsReady state Saves m1)
-  -- as many may fly together behind it as before it, and a SELECT leaves the tables
+  -- as many may fly together after it as before it, and a SELECT leaves the tables
   pub most : (settings : Option FlightSettings)
       → OnOk result (most_flown settings (public_of m1.engine)
       ≡ most_flown settings (public_of m0.engine))
@@ -52,7 +52,7 @@ abbrev pub counted_by : {E : Type 0} → Tally → Result Tally E → Tally
 counted_by tally (Ok counted) = counted
 counted_by tally (Err e) = tally
 
--- what became of the texts that waited, which these statements spell, and of those behind them, from what is gathered then:
+-- what became of the texts that waited, which these statements spell, and of those after them, from what is gathered then:
 -- the first were answered, and the others wait; or a stop came
 pub record TakesTexts {R T : Type 0} (state : R → RevState) (Saves : Type 0) (tracing : Bool)
     (May : Gathered → Type 0) (Then : (old new : Gathered) → Type 0)
@@ -85,7 +85,7 @@ ServesBatch state Saves tracing stmts tally w0 w1 t0 t1 old new m0 m1 result =
     (IsClosed m1.flights.settings (public_of m0.engine) (public_of m1.engine) stmts) stmts [] []
     tally (counted_by tally result) w0 w1 t0 t1 old new m0 m1 result
 
--- the same where a stop may leave what comes next unread, for one of these causes: then no text came behind those that waited
+-- the same where a stop may leave what comes next unread, for one of these causes: then no text came after those that waited
 abbrev pub TakesUntil : {R : Type 0} (state : R → RevState) (Saves : Type 0) (tracing : Bool)
     (May : Gathered → Type 0) (Then : (old new : Gathered) → Type 0)
     (batch0 batch1 : List Stmt) (texts : List (List ℕ)) (Why : Stop → Type 0)
@@ -166,7 +166,7 @@ abbrev pub ended_with : Option Stop → Tally → Result Tally Stop
 ended_with None tally = Ok tally
 ended_with (Some stop) tally = Err stop
 
--- the stop of a text, or that of the reading, behind which a line may be written
+-- the stop of a text, or that of the reading, after which a line may be written
 abbrev pub read_end : Result (Option Stop) TextHalted → Result (Unit {0}) Halted
 read_end (Ok None) = Ok tt
 read_end (Ok (Some stop)) = Err (record { stop = stop; quiet = false })

@@ -17,7 +17,7 @@ use Rattle.ob_shell.specs.Steps.{machine_of, no_flights, session_of, told_nothin
 use Rattle.ob_store.specs.Calls.{IsBefore, IsSteady}
 use Rattle.ob_store.specs.State.{StoreState}
 use Rattle.ob_vault.specs.State.{RevState}
-use Rattle.ob_vault.specs.Tied.{AllSealed, Calm, Scope, next_fault}
+use Rattle.ob_vault.specs.Tied.{AllSealed, Untampered, Scope, next_fault}
 
 -- where a block was read or written, at least one row was open
 abbrev pub IsUsed : List Access → ℕ → Type 0
@@ -49,7 +49,7 @@ pub record StandsOn {R : Type 0} (state : R → RevState) (base : Base) (config 
   pub asked : s.asked ≡ base.before
   pub keyed : engine_keys e ≡ keys
   pub drawn : AreDraws e (first_draws keys)
-  pub calm : Calm (world_of state e s)
+  pub calm : Untampered (world_of state e s)
   pub used : IsUsed s.asked (high_of e)
   pub held : FromEach base (λ x. Represents state e s x.tables)
   pub earlier : (region : ℕ) → base.start.region < region → s.live region ≡ None

@@ -1,4 +1,4 @@
--- What texts do to an engine, its store and the keeper behind it, one after the other, and what is printed of them.
+-- What texts do to an engine, its store and the keeper after it, one after the other, and what is printed of them.
 use Rattle.std.specs.Prelude.{ℕ, Bool, ◌≡◌, ◌⊎◌, ◌+◌, ◌<◌, ◌≤◌, ⊤, true, false, List, [], ◌∷◌, ◌++◌, length, map, slice_get, Option, None, Some, Result, Ok, Err}
 use Rattle.std.specs.List.{All}
 use Rattle.std.specs.Option.{option_map_or}
@@ -10,7 +10,7 @@ use Rattle.ob_base.specs.declared.config.Public.{Public}
 use Rattle.ob_base.specs.declared.refusal.Refusal.{Refusal}
 use Rattle.ob_base.specs.declared.refusal.Refusal.TheVariants.{Syntax}
 use Rattle.ob_base.specs.declared.seen.End.{End}
-use Rattle.ob_base.specs.declared.seen.End.TheVariants.{Static, Whole, Joined}
+use Rattle.ob_base.specs.declared.seen.End.TheVariants.{Static, Whole, Batched}
 use Rattle.ob_base.specs.declared.seen.Seen.{Seen}
 use Rattle.ob_base.specs.declared.skeleton.Skeleton.{Skeleton}
 use Rattle.ob_tables.specs.Agreeing.{Agrees, AreDraws, count_of, has_ended, indexes_of, public_of, replaced_of, seen_of, world_of}
@@ -46,7 +46,7 @@ use Rattle.ob_print.specs.Rows.{events_text}
 use Rattle.ob_reopen.specs.Keepers.{KeeperState}
 use Rattle.ob_reopen.specs.Resting.{AcceptsClosings}
 use Rattle.ob_select.specs.Selecting.{AcceptsRows}
-use Rattle.ob_shell.specs.Aloft.{FlewUntil, FlewWhole}
+use Rattle.ob_shell.specs.FlightAnswers.{FlewUntil, FlewWhole}
 use Rattle.ob_shell.specs.Tallies.{tally_with}
 use Rattle.ob_sql.specs.Skeleton.{skeleton}
 use Rattle.ob_sql.specs.declared.stmt.Stmt.{Stmt}
@@ -70,7 +70,7 @@ AreSpelt (text ∷ texts) [] = ⊥
 AreSpelt (text ∷ texts) (stmt ∷ stmts) = Spells text (Ok stmt) × AreSpelt texts stmts
 
 -- ---- what is gathered
--- behind a text: INSERTs into one table, if it was one of these, and how many SELECTs that fly together
+-- after a text: INSERTs into one table, if it was one of these, and how many SELECTs that fly together
 pub record Gathered : Type 0 where
   pub batch : Option Gathering
   pub flown : ℕ
@@ -93,7 +93,7 @@ pub record IsApartFrom (settings : Option FlightSettings) (p : Public) (gathered
   pub batch : goes_into p gathered.batch outline ≡ false
   pub flown : place_now (most_flown settings p) p gathered.flown outline ≡ 0
 
--- what is gathered behind a statement that was, by itself, and behind one that is no INSERT
+-- what is gathered after a statement that was, by itself, and after one that is no INSERT
 abbrev pub gathered_after : Public → (m : ℕ) → Gathered → Stmt → End → Gathered
 gathered_after p m gathered stmt end = record {
   batch = gathering_after p m gathered.batch stmt end;
@@ -144,7 +144,7 @@ StaysAs m0 m1 = m1 ≡ standing m0 m1.owed m1.gathered
 abbrev pub told_nothing : KeeperState
 told_nothing = record { held = None; faults = 0 }
 
--- the engine may be given a statement over this store, and what is behind it can save tables where they are to be saved
+-- the engine may be given a statement over this store, and what commits it can save tables where they are to be saved
 pub record IsReady {R : Type 0} (state : R → RevState) (Saves : Type 0) (m : Machine R)
     : Type 0 where
   pub agrees : Agrees state m.engine m.store
@@ -184,12 +184,12 @@ AreOwed d p m (one ∷ owed) tables =
     (one.outcome ≡ outcome_of one.stmt (verdict p m tables one.stmt))
     × AreOwed d p m owed (settle d p m tables one.stmt)
 
--- the tables of a machine's engine, behind those that come next and were carried out
+-- the tables of a machine's engine, after those that come next and were carried out
 abbrev pub tables_behind : {R : Type 0} → Machine R → Draws → Tables → Tables
 tables_behind m d tables =
     settle_all d (public_of m.engine) (asked_of m) (statements_of m.owed) tables
 
--- a machine stands at these tables: behind those that come next and were carried out its engine and its store hold what is meant
+-- a machine stands at these tables: after those that come next and were carried out its engine and its store hold what is meant
 pub record Holds {R : Type 0} (state : R → RevState) (m : Machine R) (d : Draws) (tables : Tables)
     : Type 0 where
   pub listed : headings tables ≡ headings_of (public_of m.engine).tables
@@ -213,14 +213,14 @@ pub record Does {R : Type 0} (state : R → RevState) (m0 m1 : Machine R) (stmt 
   pub early : RefusedEarly (refusal_now (public_of m0.engine) (asked_of m0) stmt) result
       (seen_of m1.engine)
   pub lawful : Lawful (public_of m0.engine) (asked_of m0) stmt (seen_of m1.engine)
-  -- want of memory shows how far it got, and no rows but those that are emitted
+  -- want of memory shows how far it got, and no rows except those that are emitted
   pub memory : result ≡ Err NoMemory
       → WantsMemory (public_of m0.engine) stmt (seen_of m1.engine) m0.store m1.store ⊤
   -- a stash is full only where an access read more rows than fit
   pub full : result ≡ Err StashFull → (d : Draws) → AreDraws m0.engine d
       → FillsStash (next_draw d) (public_of m0.engine) (asked_of m0) stmt (indexes_of m0.engine)
       (seen_of m1.engine).leaf m0.store.asked (world_of state m1.engine m1.store)
-  -- a sink's fault stops nothing but a SELECT
+  -- a sink's fault stops nothing except a SELECT
   pub emits : result ≡ Err SinkFault → MayEmit stmt
   -- nothing comes to lie in clear
   pub seals : (good : ℕ → List ℕ → Bool) → AcceptsRows good (public_of m0.engine).pack
@@ -228,22 +228,22 @@ pub record Does {R : Type 0} (state : R → RevState) (m0 m1 : Machine R) (stmt 
       → Seals good (world_of state m0.engine m0.store) (world_of state m1.engine m1.store)
   pub means : Means state stmt (statements_of m1.owed) result m0.engine m0.store
       m1.engine m1.store
-  -- where tables are to be saved they are so behind a change, and the keeper holds the mark; else it is as it was
+  -- where tables are to be saved they are so after a change, and the keeper holds the mark; else it is as it was
   pub keeper : KeeperBehind state stmt (statements_of m1.owed) result m0.engine m0.store
       m1.engine m1.store m0.keeper m1.keeper
   pub counts : CountsKeeper result m0.keeper m1.keeper
 
--- the numbers that are drawn behind a statement
+-- the numbers that are drawn after a statement
 abbrev pub draws_behind : {R : Type 0} → (m0 m1 : Machine R) → Stmt → Draws → Draws
 draws_behind m0 m1 stmt d = record d {
   drawn = d.drawn + draws_taken (public_of m0.engine) (skeleton stmt) (seen_of m1.engine).end;
 }
 
--- the tables behind it
+-- the tables after it
 abbrev pub settled_by : {R : Type 0} → Machine R → Stmt → Draws → Tables → Tables
 settled_by m stmt d tables = settle d (public_of m.engine) (asked_of m) tables stmt
 
--- those that were carried out with a statement mean the same by what is public behind it as before it, and were answered so
+-- those that were carried out with a statement mean the same by what is public after it as before it, and were answered so
 pub record Owes {R : Type 0} (m0 m1 : Machine R) (stmt : Stmt) (d : Draws) (tables : Tables)
     : Type 0 where
   pub whole : (m1.owed ≡ []) ⊎ ((seen_of m1.engine).end ≡ Whole)
@@ -285,7 +285,7 @@ TakesOwed failed one old new = by_fault failed ((old ≡ []) × (new ≡ [])) (o
 -- what is seen of it
 abbrev pub end_with : Option Refusal → End
 end_with (Some r) = Static
-end_with None = Joined
+end_with None = Batched
 
 -- nothing was asked for it, and its answer is its line
 pub record ServedWith {R : Type 0} (m0 m1 : Machine R) (text : List ℕ) (answer : Answer)
@@ -315,7 +315,7 @@ pub record Step {R : Type 0} (state : R → RevState) (m0 m1 : Machine R) (text 
     (answer : Answer) : Type 0 where
   pub done : Unasked m0 m1 text answer ⊎ ServedStatement state m0 m1 text answer
 
--- from the first machine to the second this text was answered so, of which this plan was seen, and all but the closing
+-- from the first machine to the second this text was answered so, of which this plan was seen, and all except the closing
 -- line was written
 pub record HasBody {R : Type 0} (state : R → RevState) (written0 written1 : Option (List ℕ))
     (text : List ℕ) (outcome : Outcome) (plan : Option Plan) (m0 m1 : Machine R) : Type 0 where
@@ -341,7 +341,7 @@ pub record CutStep {R : Type 0} (state : R → RevState) (m0 m1 : Machine R) (te
   pub printed : PrintsUntil (session_stop stop) bytes (events_text events)
 
 -- ---- those that flew together
--- the engine, which agreed with its store, may have these statements fly, behind which so many are gathered
+-- the engine, which agreed with its store, may have these statements fly, after which so many are gathered
 pub record MayFly {R : Type 0} (state : R → RevState) (m0 m1 : Machine R) (stmts : List Stmt)
     : Type 0 where
   pub free : m0.owed ≡ []
@@ -404,7 +404,7 @@ pub record CutTogether {R : Type 0} (state : R → RevState) (m0 m1 : Machine R)
   pub flew : FlewUntil state m0.flights.words m1.flights.words stmts seens stop bytes
       m0.engine m0.store m1.engine m1.store
 
--- they were answered, and a sink failed within their answers or behind them
+-- they were answered, and a sink failed within their answers or after them
 pub record FinishedTogether {R : Type 0} (state : R → RevState) (m0 m1 : Machine R)
     (texts : List (List ℕ)) (stop : RunStop) (bytes : List ℕ) : Type 0 where
   pub flown : List (List ℕ)
@@ -420,7 +420,7 @@ pub record Idle {R : Type 0} (m0 m1 : Machine R) (stop : RunStop) (bytes : List 
   pub rests : IsUndone m0 m1 bytes
   pub memory : stop ≡ NoMemory
 
--- the texts behind the first spell those that come next and were carried out
+-- the texts after the first spell those that come next and were carried out
 abbrev pub Follow : (texts : List (List ℕ)) → List Owed → Type 0
 Follow texts [] = ⊤
 Follow [] (one ∷ owed) = ⊥

@@ -6,9 +6,9 @@ use Rattle.ob_base.specs.declared.refusal.Stop.{Stop}
 use Rattle.ob_base.specs.declared.refusal.Stop.TheVariants.{Tampered, SourceFault, SinkFault, NoMemory, InputLimit, StoreFault, StashFull, KeeperFault}
 use Rattle.ob_gen.specs.declared.tally.Tally.{Tally}
 use Rattle.ob_headline.specs.Bases.{Base, FromEach}
-use Rattle.ob_headline.specs.Batches.{AnsweredBut}
+use Rattle.ob_headline.specs.Batches.{AnsweredExcept}
 use Rattle.ob_headline.specs.Endings.{last_line, status_of}
-use Rattle.ob_headline.specs.Flights.{GoesOn, most_of, public_whole, seats_of, trace_of, whole_of}
+use Rattle.ob_headline.specs.Flights.{GoesOn, most_of, public_whole, positions_of, trace_of, whole_of}
 use Rattle.ob_headline.specs.KeyLine.{LineTaken, first_line, secret_of}
 use Rattle.ob_headline.specs.Settings.{limit_of}
 use Rattle.ob_headline.specs.Texts.{texts_in}
@@ -101,7 +101,7 @@ pub record RanAfter {R : Type 0} (state : R → RevState) (tr : TraceSink) (base
   pub at_end : ended ≡ true → IsAtEnd left1
   pub story : Story
   pub texts : texts_in ended (feed0.unread ++ piece) ≡ story.served ++ story.more
-  pub prompt : AnsweredBut (public_whole base story) (batch_most base.public) (most_of base)
+  pub prompt : AnsweredExcept (public_whole base story) (batch_most base.public) (most_of base)
       (texts_in false (before_read gave (feed0.unread ++ piece))) story.served
   pub carried : Carried tr base keys secret store0 store1 high story (Ran (flagged result))
   -- the rows that were open are those of the session's engine; where none was started, there are none
@@ -109,7 +109,7 @@ pub record RanAfter {R : Type 0} (state : R → RevState) (tr : TraceSink) (base
       store0 store1 Lost result high ⊎ ((high ≡ 0) × (store1 ≡ store0))
   pub cut : Outputs written0 written1 Lost (printed story.answers ++ story.part)
   pub whole : Took written0 written1 (printed story.answers)
-  pub answered : GoesOn (drop (length story.seen) (seats_of base story.entries))
+  pub answered : GoesOn (drop (length story.seen) (positions_of base story.entries))
       ⊎ LosesSome Lost (Ran (flagged result))
   pub counted : TallyIs story.answers result
   pub ends : EndsBy feed1 ended (feed0.unread ++ piece) story.more story.part (flagged result)
@@ -203,7 +203,7 @@ pub record RunShown (tally : Tally) (tr : TraceSink) (base : Base) (keys : List 
   pub grew : Outputs written0 written1 Fault ((printed story.answers ++ story.part) ++ line)
   -- a sink's fault ends the run: all answers were taken whole
   pub whole : Took written0 written1 (printed story.answers)
-  pub answered : GoesOn (drop (length story.seen) (seats_of base story.entries))
+  pub answered : GoesOn (drop (length story.seen) (positions_of base story.entries))
       ⊎ LosesSome Fault ending
   pub flag : EndingFlag ending story.answers
   pub counted : EndingTally ending story.answers tally
@@ -223,7 +223,7 @@ pub record Reported (tally : Tally) (tr : TraceSink) (Takes : Type 0) (base : Ba
   -- so was what was printed of the one that was begun, unless the sink of the answers failed
   pub through : Took written0 written1 (printed shown.story.answers ++ shown.story.part)
       ⊎ Rises old.out new.out
-  pub answered : GoesOn (drop (length shown.story.seen) (seats_of base shown.story.entries))
+  pub answered : GoesOn (drop (length shown.story.seen) (positions_of base shown.story.entries))
       ⊎ LosesSome (Rises old.out new.out) ending
   pub silent : new.trace ≢ old.trace
       → Outputs written0 written1 (Unit {0}) (printed shown.story.answers ++ shown.story.part)

@@ -22,7 +22,7 @@ use crate::flying::{begins_flight, may_fly, most_flown, serve_flight};
 use crate::session::{Answered, SINK_FAILED, TextHalted, serve_stmt, tally_with};
 use crate::trace::{let_go_from, trace_from};
 use ob_base::{Failed, Public};
-use ob_exec::{Behind, Engine, Outcome, RunStop, batch_most, begins_batch, run_batch};
+use ob_exec::{Commit, Engine, Outcome, RunStop, batch_most, begins_batch, run_batch};
 use ob_gen::{Digester, Tally};
 use ob_headline::FlightSettings;
 use ob_io::Sink;
@@ -122,37 +122,37 @@ fn write_lines<K: Sink>(outcomes: &[Outcome], out: &mut K) -> Result<(), Failed>
     write_pieces(outcomes, &mut pieces)
 }
 
-// Writes the line of the first, digests and traces what was asked since the mark, and writes the lines of the others. After a
+// Writes the line of the first, digests and traces what comes after `asked_before`, and writes the lines of the others. After a
 // sink's fault nothing more is written.
 fn write_batch<S: BlockStore, K: Sink, T: Sink, D: Digester>(
     tracing: bool,
     store: &S,
-    mark: u64,
+    asked_before: u64,
     outcome: Outcome,
     outcomes: &[Outcome],
     out: &mut K,
     trace: &mut T,
     digest: &mut D,
 ) -> Result<(), Failed>
-    requires listed { (S.state store.now).let_go ≤ mark }
-    requires within { mark ≤ length (S.state store.now).asked }
+    requires listed { (S.state store.now).let_go ≤ asked_before }
+    requires within { asked_before ≤ length (S.state store.now).asked }
     ensures ok { OnOk result (Appends (K.written out.old) (K.written out.new)
         (printed (line_answers (outcome ∷ outcomes.now)))) }
     ensures traced { OnOk result (Appends (T.written trace.old) (T.written trace.new)
-        (traced tracing (drop mark (S.state store.now).asked))) }
+        (traced tracing (drop asked_before (S.state store.now).asked))) }
     ensures cut { OnErr result (BatchCut (outcome ∷ outcomes.now)
         (K.written out.old) (K.written out.new) (T.written trace.old) (T.written trace.new)
-        (traced tracing (drop mark (S.state store.now).asked))
+        (traced tracing (drop asked_before (S.state store.now).asked))
         (K.faults out.old) (K.faults out.new)) }
     ensures cause { SinksCause (faults_of 0 (K.faults out.old) (T.faults trace.old))
         (faults_of 0 (K.faults out.new) (T.faults trace.new)) result }
-    ensures took { OnOk result (D.took digest.old (take mark (S.state store.now).asked)
+    ensures took { OnOk result (D.took digest.old (take asked_before (S.state store.now).asked)
         → D.took digest.new (S.state store.now).asked) }
 {
     if let Err(failed) = write_all(out, closing_line(outcome).as_bytes()) {
         return Err(failed);
     }
-    if let Err(failed) = trace_from(tracing, store, mark, trace, digest) {
+    if let Err(failed) = trace_from(tracing, store, asked_before, trace, digest) {
         return Err(failed);
     }
     write_lines(outcomes, out)
@@ -176,7 +176,7 @@ fn tally_all(tally: Tally, outcomes: &[Outcome]) -> Tally
 }
 
 // Serves a batch: the first, and the rest with it. Tells what was counted then.
-fn serve_batch<R: Revisions, S: BlockStore, B: Behind<S>, K: Sink, T: Sink, D: Digester>(
+fn serve_batch<R: Revisions, S: BlockStore, B: Commit<S>, K: Sink, T: Sink, D: Digester>(
     alloc: Global,
     tracing: bool,
     tally: Tally,
@@ -184,39 +184,39 @@ fn serve_batch<R: Revisions, S: BlockStore, B: Behind<S>, K: Sink, T: Sink, D: D
     rest: &[Stmt],
     engine: &mut Engine<R>,
     store: &mut S,
-    behind: &mut B,
+    commit: &mut B,
     out: &mut K,
     trace: &mut T,
     digest: &mut D,
 ) -> Result<Tally, TextHalted>
     requires batch { AreBatch (public_of engine.old) (count_of engine.old (S.state store.old))
         first.now rest.now }
-    requires ready { IsReady R.state (B.Saves behind.old)
-        (machine_of engine.old (S.state store.old) (B.state behind.old) no_flights) }
+    requires ready { IsReady R.state (B.Saves commit.old)
+        (machine_of engine.old (S.state store.old) (B.state commit.old) no_flights) }
     requires took { D.took digest.old (S.state store.old).asked }
-    ensures serves { (flights : FlightsToCome) → ServesBatch R.state (B.Saves behind.new) tracing
+    ensures serves { (flights : FlightsToCome) → ServesBatch R.state (B.Saves commit.new) tracing
         (first.now ∷ rest.now) tally
         (K.written out.old) (K.written out.new) (T.written trace.old) (T.written trace.new)
         (faults_of 0 (K.faults out.old) (T.faults trace.old))
         (faults_of 0 (K.faults out.new) (T.faults trace.new))
-        (machine_of engine.old (S.state store.old) (B.state behind.old) flights)
-        (machine_of engine.new (S.state store.new) (B.state behind.new) flights) result }
-    ensures same { B.name behind.new ≡ B.name behind.old }
+        (machine_of engine.old (S.state store.old) (B.state commit.old) flights)
+        (machine_of engine.new (S.state store.new) (B.state commit.new) flights) result }
+    ensures same { B.name commit.new ≡ B.name commit.old }
     ensures took { OnOk result (D.took digest.new (S.state store.new).asked) }
 {
-    let mark = store.count();
+    let asked_before = store.count();
     let Ok(mut outcomes) = Vec::from_elem(alloc, Outcome::Inserted, rest.len()) else {
         return Err(TextHalted {
             stop: RunStop::NoMemory,
             quiet: false,
         });
     };
-    match run_batch(engine, store, behind, first, rest, outcomes.as_mut_slice()) {
+    match run_batch(engine, store, commit, first, rest, outcomes.as_mut_slice()) {
         Ok(outcome) => {
             match write_batch(
                 tracing,
                 store,
-                mark,
+                asked_before,
                 outcome,
                 outcomes.as_slice(),
                 out,
@@ -224,7 +224,7 @@ fn serve_batch<R: Revisions, S: BlockStore, B: Behind<S>, K: Sink, T: Sink, D: D
                 digest,
             ) {
                 Ok(()) => {
-                    let_go_from(store, mark);
+                    let_go_from(store, asked_before);
                     let plan = None;
                     let counted = tally_with(tally, Answered { outcome, plan });
                     Ok(tally_all(counted, outcomes.as_slice()))
@@ -233,14 +233,14 @@ fn serve_batch<R: Revisions, S: BlockStore, B: Behind<S>, K: Sink, T: Sink, D: D
             }
         }
         Err(stop) => {
-            let quiet = trace_from(tracing, store, mark, trace, digest).is_err();
+            let quiet = trace_from(tracing, store, asked_before, trace, digest).is_err();
             Err(TextHalted { stop, quiet })
         }
     }
 }
 
 // Serves SELECTs: one by itself, or several in flight. Tells what was counted then.
-fn serve_selects<R: Revisions, S: BlockStore, B: Behind<S>, K: Sink, T: Sink, D: Digester>(
+fn serve_selects<R: Revisions, S: BlockStore, B: Commit<S>, K: Sink, T: Sink, D: Digester>(
     alloc: Global,
     tracing: bool,
     tally: Tally,
@@ -248,7 +248,7 @@ fn serve_selects<R: Revisions, S: BlockStore, B: Behind<S>, K: Sink, T: Sink, D:
     stmts: &[Stmt],
     engine: &mut Engine<R>,
     store: &mut S,
-    behind: &mut B,
+    commit: &mut B,
     out: &mut K,
     trace: &mut T,
     digest: &mut D,
@@ -256,20 +256,20 @@ fn serve_selects<R: Revisions, S: BlockStore, B: Behind<S>, K: Sink, T: Sink, D:
     requires some { 1 ≤ length stmts.now }
     requires flown { (settings : Option FlightSettings)
         × AreFlown settings (public_of engine.old) stmts.now }
-    requires ready { IsReady R.state (B.Saves behind.old)
-        (machine_of engine.old (S.state store.old) (B.state behind.old) no_flights) }
+    requires ready { IsReady R.state (B.Saves commit.old)
+        (machine_of engine.old (S.state store.old) (B.state commit.old) no_flights) }
     requires took { D.took digest.old (S.state store.old).asked }
     ensures serves { (settings : Option FlightSettings)
         → AreFlown settings (public_of engine.old) stmts.now
-        → ServesBatch R.state (B.Saves behind.new) tracing stmts.now tally
+        → ServesBatch R.state (B.Saves commit.new) tracing stmts.now tally
         (K.written out.old) (K.written out.new) (T.written trace.old) (T.written trace.new)
         (faults_of 0 (K.faults out.old) (T.faults trace.old))
         (faults_of 0 (K.faults out.new) (T.faults trace.new))
-        (machine_of engine.old (S.state store.old) (B.state behind.old)
+        (machine_of engine.old (S.state store.old) (B.state commit.old)
         (flights_of settings turns.old.last))
-        (machine_of engine.new (S.state store.new) (B.state behind.new)
+        (machine_of engine.new (S.state store.new) (B.state commit.new)
         (flights_of settings turns.new.last)) result }
-    ensures same { B.name behind.new ≡ B.name behind.old }
+    ensures same { B.name commit.new ≡ B.name commit.old }
     ensures took { OnOk result (D.took digest.new (S.state store.new).asked) }
 {
     if stmts.len() >= 2 {
@@ -278,7 +278,7 @@ fn serve_selects<R: Revisions, S: BlockStore, B: Behind<S>, K: Sink, T: Sink, D:
         );
     }
     serve_stmt(
-        alloc, tracing, tally, engine, store, behind, &stmts[0], out, trace, digest,
+        alloc, tracing, tally, engine, store, commit, &stmts[0], out, trace, digest,
     )
 }
 
@@ -286,7 +286,7 @@ fn serve_selects<R: Revisions, S: BlockStore, B: Behind<S>, K: Sink, T: Sink, D:
 pub(crate) fn serve_waiting<
     R: Revisions,
     S: BlockStore,
-    B: Behind<S>,
+    B: Commit<S>,
     K: Sink,
     T: Sink,
     D: Digester,
@@ -298,28 +298,28 @@ pub(crate) fn serve_waiting<
     stmts: &[Stmt],
     engine: &mut Engine<R>,
     store: &mut S,
-    behind: &mut B,
+    commit: &mut B,
     out: &mut K,
     trace: &mut T,
     digest: &mut D,
 ) -> Result<Tally, TextHalted>
     requires waits { (settings : Option FlightSettings) × AreBatched settings
         (public_of engine.old) (count_of engine.old (S.state store.old)) stmts.now }
-    requires ready { IsReady R.state (B.Saves behind.old)
-        (machine_of engine.old (S.state store.old) (B.state behind.old) no_flights) }
+    requires ready { IsReady R.state (B.Saves commit.old)
+        (machine_of engine.old (S.state store.old) (B.state commit.old) no_flights) }
     requires took { D.took digest.old (S.state store.old).asked }
     ensures serves { (settings : Option FlightSettings) → AreBatched settings
         (public_of engine.old) (count_of engine.old (S.state store.old)) stmts.now
-        → ServesBatch R.state (B.Saves behind.new) tracing stmts.now tally
+        → ServesBatch R.state (B.Saves commit.new) tracing stmts.now tally
         (K.written out.old) (K.written out.new) (T.written trace.old) (T.written trace.new)
         (faults_of 0 (K.faults out.old) (T.faults trace.old))
         (faults_of 0 (K.faults out.new) (T.faults trace.new))
-        (machine_of engine.old (S.state store.old) (B.state behind.old)
+        (machine_of engine.old (S.state store.old) (B.state commit.old)
         (flights_of settings turns.old.last))
-        (machine_of engine.new (S.state store.new) (B.state behind.new)
+        (machine_of engine.new (S.state store.new) (B.state commit.new)
         (flights_of settings turns.new.last)) result }
     ensures idle { OnErr result (stmts.now ≢ []) }
-    ensures same { B.name behind.new ≡ B.name behind.old }
+    ensures same { B.name commit.new ≡ B.name commit.old }
     ensures took { OnOk result (D.took digest.new (S.state store.new).asked) }
 {
     let Some((first, rest)) = stmts.split_first() else {
@@ -327,10 +327,10 @@ pub(crate) fn serve_waiting<
     };
     if is_insert(first) {
         return serve_batch(
-            alloc, tracing, tally, first, rest, engine, store, behind, out, trace, digest,
+            alloc, tracing, tally, first, rest, engine, store, commit, out, trace, digest,
         );
     }
     serve_selects(
-        alloc, tracing, tally, turns, stmts, engine, store, behind, out, trace, digest,
+        alloc, tracing, tally, turns, stmts, engine, store, commit, out, trace, digest,
     )
 }

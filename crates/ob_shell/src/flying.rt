@@ -94,7 +94,7 @@ fn tally_flown(tally: Tally, outcomes: &[Outcome], seens: &[Seen]) -> Tally
     }
 }
 
-// Has statements fly, prints their answers, of which none waits afterwards, and counts them. Where the sink fails behind a
+// Has statements fly, prints their answers, of which none waits afterwards, and counts them. Where the sink fails after a
 // stop, the stop remains.
 fn fly_stmts<R: Revisions, S: BlockStore, K: Sink>(
     tally: Tally,
@@ -222,18 +222,18 @@ pub(crate) fn serve_flight<R: Revisions, S: BlockStore, K: Sink, T: Sink, D: Dig
         (IsQuiet (halted_of result))) }
     ensures took { OnOk result (D.took digest.new (S.state store.new).asked) }
 {
-    let mark = store.count();
+    let asked_before = store.count();
     match answer_flight(alloc, tally, turns, stmts, engine, store, out) {
-        Ok(counted) => match trace_from(tracing, store, mark, trace, digest) {
+        Ok(counted) => match trace_from(tracing, store, asked_before, trace, digest) {
             Ok(()) => {
-                let_go_from(store, mark);
+                let_go_from(store, asked_before);
                 Ok(counted)
             }
             Err(Failed) => Err(SINK_FAILED),
         },
         Err(TextHalted { stop, quiet: true }) => Err(TextHalted { stop, quiet: true }),
         Err(TextHalted { stop, quiet: false }) => {
-            let quiet = trace_from(tracing, store, mark, trace, digest).is_err();
+            let quiet = trace_from(tracing, store, asked_before, trace, digest).is_err();
             Err(TextHalted { stop, quiet })
         }
     }

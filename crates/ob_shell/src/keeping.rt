@@ -27,7 +27,7 @@ use crate::session::serve;
 use crate::top::{Ended, ended_with, last_line, refuse_words, serve_over, status_of};
 use crate::trace::trace_from;
 use ob_base::{Config, Stop};
-use ob_exec::{CloseErr, Engine, OpenErr, Unsaved};
+use ob_exec::{CloseErr, Engine, NoCommit, OpenErr};
 use ob_gen::{Digester, Discard, Generated, Tally, TraceDigest, Undigested};
 use ob_headline::{Ending, FlightSettings, KeptEnding, Report, Seed};
 use ob_io::{Sink, Source};
@@ -102,7 +102,7 @@ fn closing_end(error: CloseErr) -> KeptEnding
     }
 }
 
-// A run that ended so, behind which no text was counted.
+// A run that ended so, after which no text was counted.
 pub(crate) fn kept_at(ending: KeptEnding, quiet: bool, high: u64) -> KeptEnded
     ensures { result
         ≡ record { ending = ending; quiet = quiet; high = high; tally = empty_tally } }
@@ -290,7 +290,7 @@ fn serve_run<R: Revisions, I: Source, O: Sink, T: Sink, D: Digester, S: BlockSto
         input,
         &mut engine,
         store,
-        &mut Unsaved,
+        &mut NoCommit,
         out,
         trace,
         digest,
@@ -303,7 +303,7 @@ fn serve_run<R: Revisions, I: Source, O: Sink, T: Sink, D: Digester, S: BlockSto
     }
 }
 
-// Reads the first line, and serves the texts with the tables that are kept: all but the last line.
+// Reads the first line, and serves the texts with the tables that are kept: all except the last line.
 pub(crate) fn run_kept<I: Source, O: Sink, T: Sink, D: Digester, S: Lasting, K: Keeper>(
     alloc: Global,
     words: Words,

@@ -88,7 +88,7 @@ fn serve_salted<I: Source, O: Sink, T: Sink, D: Digester, S: BlockStore>(
     }
 }
 
-/// Reads the first line, has the keeper draw a salt, and serves the texts: all but the last line. Before the salt is drawn
+/// Reads the first line, has the keeper draw a salt, and serves the texts: all except the last line. Before the salt is drawn
 /// the store is asked for nothing.
 pub(crate) fn run_salted<I: Source, O: Sink, T: Sink, D: Digester, S: BlockStore, K: Salts>(
     alloc: Global,

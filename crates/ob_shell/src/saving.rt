@@ -1,4 +1,4 @@
-//! Runs whose tables are saved behind each statement that changes them.
+//! Runs whose tables are saved after each statement that changes them.
 ghost use Rattle.std.specs.Prelude.{◌≡◌, ◌≢◌, ◌≤◌, ⊤, ℕ, Bool, List, [], IfErr, IfOk, Ok, OnOk, false, true};
 ghost use Rattle.std.specs.Prelude.{codes, map, string_bytes};
 ghost use Rattle.ob_base.specs.declared.config.Config.{Config};
@@ -32,7 +32,7 @@ use crate::session::serve;
 use crate::top::{ended_with, refuse_words};
 use crate::trace::trace_from;
 use ob_base::{Config, Failed, NoMemory, Stop};
-use ob_exec::{Engine, SavedBy};
+use ob_exec::{CommitTo, Engine};
 use ob_gen::{Digester, Discard, Generated, Tally, TraceDigest, Undigested};
 use ob_headline::{Ending, FlightSettings, KeptEnding, Report, Seed};
 use ob_io::{Sink, Source};
@@ -230,7 +230,7 @@ fn start_saving<R: Revisions, T: Sink, D: Digester, S: Saving, K: Salts>(
     }
 }
 
-// Serves what follows the first line. Nothing is closed behind that: each statement was saved before it was answered.
+// Serves what follows the first line. Nothing is closed after that: each statement was saved before it was answered.
 fn serve_saving<R: Revisions, I: Source, O: Sink, T: Sink, D: Digester, S: Saving, K: Keeper>(
     alloc: Global,
     tracing: bool,
@@ -267,7 +267,7 @@ fn serve_saving<R: Revisions, I: Source, O: Sink, T: Sink, D: Digester, S: Savin
         → D.took digest.new (S.state store.new).asked }
 {
     let mut engine = engine;
-    let mut behind = SavedBy { keeper };
+    let mut commit = CommitTo { keeper };
     let served = serve(
         alloc,
         tracing,
@@ -276,7 +276,7 @@ fn serve_saving<R: Revisions, I: Source, O: Sink, T: Sink, D: Digester, S: Savin
         input,
         &mut engine,
         store,
-        &mut behind,
+        &mut commit,
         out,
         trace,
         digest,
@@ -284,7 +284,7 @@ fn serve_saving<R: Revisions, I: Source, O: Sink, T: Sink, D: Digester, S: Savin
     plainly(ended_with(served, engine.high()))
 }
 
-// Reads the first line, and serves the texts with the tables that are saved: all but the last line.
+// Reads the first line, and serves the texts with the tables that are saved: all except the last line.
 fn run_saved<I: Source, O: Sink, T: Sink, D: Digester, S: Saving, K: Salts>(
     alloc: Global,
     words: Words,

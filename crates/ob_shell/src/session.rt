@@ -1,4 +1,4 @@
-//! The texts of an input, each served as soon as it has come, or together with some behind it.
+//! The texts of an input, each served as soon as it has come, or together with some after it.
 ghost use Rattle.std.specs.Prelude.{◌≡◌, ◌≢◌, ◌<◌, ◌≤◌, ◌++◌, List, [], ◌∷◌, true, false, Ok, Err, length, OnOk, OnErr};
 ghost use Rattle.ob_base.specs.declared.access.Access.{Access};
 ghost use Rattle.ob_gen.specs.Tally.{empty_tally};
@@ -23,7 +23,7 @@ use crate::flying::turns_of;
 use crate::pending::{Grown, Pending, PushStop};
 use crate::trace::{let_go_from, trace_from};
 use ob_base::{Failed, Plan, Refusal, Stop};
-use ob_exec::{Behind, Engine, Outcome, RunStop, run};
+use ob_exec::{Commit, Engine, Outcome, RunStop, run};
 use ob_gen::{Digester, Tally};
 use ob_headline::FlightSettings;
 use ob_io::{Sink, Source};
@@ -108,21 +108,21 @@ pub(crate) fn tally_with(tally: Tally, answered: Answered) -> Tally
 }
 
 // Runs one statement, whose text this is, and prints its header and rows, of which none waits afterwards. Where the sink
-// fails behind a stop, the stop remains.
-fn run_stmt<R: Revisions, S: BlockStore, B: Behind<S>, K: Sink>(
+// fails after a stop, the stop remains.
+fn run_stmt<R: Revisions, S: BlockStore, B: Commit<S>, K: Sink>(
     engine: &mut Engine<R>,
     store: &mut S,
-    behind: &mut B,
+    commit: &mut B,
     stmt: &Stmt,
     printer: &mut Printer<'_, K>,
 ) -> Result<Answered, TextHalted>
     requires alone { begins_batch (public_of engine.old) (count_of engine.old (S.state store.old))
         stmt.now ≡ false }
-    requires ready { IsReady R.state (B.Saves behind.old)
-        (machine_of engine.old (S.state store.old) (B.state behind.old) no_flights) }
+    requires ready { IsReady R.state (B.Saves commit.old)
+        (machine_of engine.old (S.state store.old) (B.state commit.old) no_flights) }
     requires none { printer.old.out.waiting.items ≡ [] }
     ensures same_sink { printer.new.out.out.ghost_name ≡ printer.old.out.out.ghost_name }
-    ensures serves { (flights : Flights) → ServesStmt R.state (B.Saves behind.new)
+    ensures serves { (flights : Flights) → ServesStmt R.state (B.Saves commit.new)
         (λ gathered. IsApartFrom flights.settings (public_of engine.old) gathered
         (skeleton stmt.now)) stmt.now
         (λ text a. HasBody R.state (K.written printer.old.out.out.now)
@@ -130,15 +130,15 @@ fn run_stmt<R: Revisions, S: BlockStore, B: Behind<S>, K: Sink>(
         (K.written printer.old.out.out.now) (K.written printer.new.out.out.now)
         (faults_of 0 (K.faults printer.old.out.out.now) 0)
         (faults_of 0 (K.faults printer.new.out.out.now) 0)
-        (machine_of engine.old (S.state store.old) (B.state behind.old) flights)
-        (machine_of engine.new (S.state store.new) (B.state behind.new) flights)
+        (machine_of engine.old (S.state store.old) (B.state commit.old) flights)
+        (machine_of engine.new (S.state store.new) (B.state commit.new) flights)
         result }
     ensures asked { (seen : List Access) × ((S.state store.new).asked
         ≡ (S.state store.old).asked ++ seen) }
     ensures listed { (S.state store.new).let_go ≡ (S.state store.old).let_go }
-    ensures same { B.name behind.new ≡ B.name behind.old }
+    ensures same { B.name commit.new ≡ B.name commit.old }
 {
-    match run(engine, store, behind, stmt, printer) {
+    match run(engine, store, commit, stmt, printer) {
         Ok(outcome) => match printer.out.flush() {
             Ok(()) => Ok(Answered {
                 outcome,
@@ -156,72 +156,72 @@ fn run_stmt<R: Revisions, S: BlockStore, B: Behind<S>, K: Sink>(
     }
 }
 
-// Answers a statement, whose text this is, but for its closing line.
-fn run_text<R: Revisions, S: BlockStore, B: Behind<S>, K: Sink>(
+// Answers a statement, whose text this is, except for its closing line.
+fn run_text<R: Revisions, S: BlockStore, B: Commit<S>, K: Sink>(
     alloc: Global,
     engine: &mut Engine<R>,
     store: &mut S,
-    behind: &mut B,
+    commit: &mut B,
     stmt: &Stmt,
     out: &mut K,
 ) -> Result<Answered, TextHalted>
     requires alone { begins_batch (public_of engine.old) (count_of engine.old (S.state store.old))
         stmt.now ≡ false }
-    requires ready { IsReady R.state (B.Saves behind.old)
-        (machine_of engine.old (S.state store.old) (B.state behind.old) no_flights) }
-    ensures serves { (flights : Flights) → ServesStmt R.state (B.Saves behind.new)
+    requires ready { IsReady R.state (B.Saves commit.old)
+        (machine_of engine.old (S.state store.old) (B.state commit.old) no_flights) }
+    ensures serves { (flights : Flights) → ServesStmt R.state (B.Saves commit.new)
         (λ gathered. IsApartFrom flights.settings (public_of engine.old) gathered
         (skeleton stmt.now)) stmt.now
         (λ text a. HasBody R.state (K.written out.old) (K.written out.new) text a.outcome a.plan)
         (K.written out.old) (K.written out.new)
         (faults_of 0 (K.faults out.old) 0)
         (faults_of 0 (K.faults out.new) 0)
-        (machine_of engine.old (S.state store.old) (B.state behind.old) flights)
-        (machine_of engine.new (S.state store.new) (B.state behind.new) flights)
+        (machine_of engine.old (S.state store.old) (B.state commit.old) flights)
+        (machine_of engine.new (S.state store.new) (B.state commit.new) flights)
         result }
     ensures asked { (seen : List Access) × ((S.state store.new).asked
         ≡ (S.state store.old).asked ++ seen) }
     ensures listed { (S.state store.new).let_go ≡ (S.state store.old).let_go }
-    ensures same { B.name behind.new ≡ B.name behind.old }
+    ensures same { B.name commit.new ≡ B.name commit.old }
 {
     let mut line = RecordLine::new(alloc);
     let mut printer = Printer {
         out: Pieces::new(out),
         line: &mut line,
     };
-    run_stmt(engine, store, behind, stmt, &mut printer)
+    run_stmt(engine, store, commit, stmt, &mut printer)
 }
 
 // Answers a statement whole, with its closing line, and counts it.
-fn answer<R: Revisions, S: BlockStore, B: Behind<S>, K: Sink>(
+fn answer<R: Revisions, S: BlockStore, B: Commit<S>, K: Sink>(
     alloc: Global,
     tally: Tally,
     engine: &mut Engine<R>,
     store: &mut S,
-    behind: &mut B,
+    commit: &mut B,
     stmt: &Stmt,
     out: &mut K,
 ) -> Result<Tally, TextHalted>
     requires alone { begins_batch (public_of engine.old) (count_of engine.old (S.state store.old))
         stmt.now ≡ false }
-    requires ready { IsReady R.state (B.Saves behind.old)
-        (machine_of engine.old (S.state store.old) (B.state behind.old) no_flights) }
-    ensures serves { (flights : Flights) → ServesStmt R.state (B.Saves behind.new)
+    requires ready { IsReady R.state (B.Saves commit.old)
+        (machine_of engine.old (S.state store.old) (B.state commit.old) no_flights) }
+    ensures serves { (flights : Flights) → ServesStmt R.state (B.Saves commit.new)
         (λ gathered. IsApartFrom flights.settings (public_of engine.old) gathered
         (skeleton stmt.now)) stmt.now
         (AnswersText R.state (K.written out.old) (K.written out.new) tally)
         (K.written out.old) (K.written out.new)
         (faults_of 0 (K.faults out.old) 0)
         (faults_of 0 (K.faults out.new) 0)
-        (machine_of engine.old (S.state store.old) (B.state behind.old) flights)
-        (machine_of engine.new (S.state store.new) (B.state behind.new) flights)
+        (machine_of engine.old (S.state store.old) (B.state commit.old) flights)
+        (machine_of engine.new (S.state store.new) (B.state commit.new) flights)
         result }
     ensures asked { (seen : List Access) × ((S.state store.new).asked
         ≡ (S.state store.old).asked ++ seen) }
     ensures listed { (S.state store.new).let_go ≡ (S.state store.old).let_go }
-    ensures same { B.name behind.new ≡ B.name behind.old }
+    ensures same { B.name commit.new ≡ B.name commit.old }
 {
-    match run_text(alloc, engine, store, behind, stmt, out) {
+    match run_text(alloc, engine, store, commit, stmt, out) {
         Err(halted) => Err(halted),
         Ok(answered) => match write_all(out, closing_line(answered.outcome).as_bytes()) {
             Ok(()) => Ok(tally_with(tally, answered)),
@@ -232,13 +232,13 @@ fn answer<R: Revisions, S: BlockStore, B: Behind<S>, K: Sink>(
 
 // Answers a statement whole, and then traces what it asked, of which the store lets go. After a sink's fault nothing more is
 // written.
-pub(crate) fn serve_stmt<R: Revisions, S: BlockStore, B: Behind<S>, K: Sink, T: Sink, D: Digester>(
+pub(crate) fn serve_stmt<R: Revisions, S: BlockStore, B: Commit<S>, K: Sink, T: Sink, D: Digester>(
     alloc: Global,
     tracing: bool,
     tally: Tally,
     engine: &mut Engine<R>,
     store: &mut S,
-    behind: &mut B,
+    commit: &mut B,
     stmt: &Stmt,
     out: &mut K,
     trace: &mut T,
@@ -246,39 +246,39 @@ pub(crate) fn serve_stmt<R: Revisions, S: BlockStore, B: Behind<S>, K: Sink, T: 
 ) -> Result<Tally, TextHalted>
     requires alone { begins_batch (public_of engine.old) (count_of engine.old (S.state store.old))
         stmt.now ≡ false }
-    requires ready { IsReady R.state (B.Saves behind.old)
-        (machine_of engine.old (S.state store.old) (B.state behind.old) no_flights) }
+    requires ready { IsReady R.state (B.Saves commit.old)
+        (machine_of engine.old (S.state store.old) (B.state commit.old) no_flights) }
     requires took { D.took digest.old (S.state store.old).asked }
-    ensures serves { (flights : Flights) → ServesStmt R.state (B.Saves behind.new)
+    ensures serves { (flights : Flights) → ServesStmt R.state (B.Saves commit.new)
         (λ gathered. IsApartFrom flights.settings (public_of engine.old) gathered
         (skeleton stmt.now)) stmt.now
         (AnswersText R.state (K.written out.old) (K.written out.new) tally)
         (K.written out.old) (K.written out.new)
         (faults_of 0 (K.faults out.old) (T.faults trace.old))
         (faults_of 0 (K.faults out.new) (T.faults trace.new))
-        (machine_of engine.old (S.state store.old) (B.state behind.old) flights)
-        (machine_of engine.new (S.state store.new) (B.state behind.new) flights)
+        (machine_of engine.old (S.state store.old) (B.state commit.old) flights)
+        (machine_of engine.new (S.state store.new) (B.state commit.new) flights)
         result }
     ensures traced { OnOk result (TracedAll tracing (S.state store.old).asked
         (S.state store.new).asked (T.written trace.old) (T.written trace.new)) }
     ensures traced_stop { OnErr result (Traced tracing (S.state store.old).asked
         (S.state store.new).asked (T.written trace.old) (T.written trace.new)
         (IsQuiet (halted_of result))) }
-    ensures same { B.name behind.new ≡ B.name behind.old }
+    ensures same { B.name commit.new ≡ B.name commit.old }
     ensures took { OnOk result (D.took digest.new (S.state store.new).asked) }
 {
-    let mark = store.count();
-    match answer(alloc, tally, engine, store, behind, stmt, out) {
-        Ok(counted) => match trace_from(tracing, store, mark, trace, digest) {
+    let asked_before = store.count();
+    match answer(alloc, tally, engine, store, commit, stmt, out) {
+        Ok(counted) => match trace_from(tracing, store, asked_before, trace, digest) {
             Ok(()) => {
-                let_go_from(store, mark);
+                let_go_from(store, asked_before);
                 Ok(counted)
             }
             Err(Failed) => Err(SINK_FAILED),
         },
         Err(TextHalted { stop, quiet: true }) => Err(TextHalted { stop, quiet: true }),
         Err(TextHalted { stop, quiet: false }) => {
-            let quiet = trace_from(tracing, store, mark, trace, digest).is_err();
+            let quiet = trace_from(tracing, store, asked_before, trace, digest).is_err();
             Err(TextHalted { stop, quiet })
         }
     }
@@ -315,19 +315,19 @@ pub trait Stands {
     ghost Keeps: { Self → Self → Type 0 };
 }
 
-/// What texts are served over: an engine and its store, what is behind a statement, and where answers, traces and digests go.
+/// What texts are served over: an engine and its store, what commits a statement, and where answers, traces and digests go.
 #[derive(Drop)]
-pub struct Server<'a, R: Revisions, S: BlockStore, B: Behind<S>, K: Sink, T: Sink, D: Digester> {
+pub struct Server<'a, R: Revisions, S: BlockStore, B: Commit<S>, K: Sink, T: Sink, D: Digester> {
     pub alloc: Global,
     pub engine: &'a mut Engine<R>,
     pub store: &'a mut S,
-    pub behind: &'a mut B,
+    pub commit: &'a mut B,
     pub out: &'a mut K,
     pub trace: &'a mut T,
     pub digest: &'a mut D,
 }
 
-impl<'a, R: Revisions, S: BlockStore, B: Behind<S>, K: Sink, T: Sink, D: Digester> Stands
+impl<'a, R: Revisions, S: BlockStore, B: Commit<S>, K: Sink, T: Sink, D: Digester> Stands
     for Server<'a, R, S, B, K, T, D> {
     type Revs = R;
 
@@ -336,24 +336,24 @@ impl<'a, R: Revisions, S: BlockStore, B: Behind<S>, K: Sink, T: Sink, D: Digeste
 
     ghost here = { here_of S.state B.state K.written K.faults T.written T.faults };
 
-    ghost Ready = { λ manner s session. IsReadyHere R.state (B.Saves s.behind.now)
+    ghost Ready = { λ manner s session. IsReadyHere R.state (B.Saves s.commit.now)
         (D.took s.digest.now)
         (here_of S.state B.state K.written K.faults T.written T.faults manner s session) };
 
     ghost Takes = { λ manner s session t next firsts texts Why result. TakesHere R.state
-        (B.Saves t.behind.now) manner.tracing firsts texts Why
+        (B.Saves t.commit.now) manner.tracing firsts texts Why
         (here_of S.state B.state K.written K.faults T.written T.faults manner s session)
         (here_of S.state B.state K.written K.faults T.written T.faults manner t next) result };
 
     ghost Flushes = { λ manner s session t next result. FlushesHere R.state
-        (B.Saves t.behind.now) manner.tracing
+        (B.Saves t.commit.now) manner.tracing
         (here_of S.state B.state K.written K.faults T.written T.faults manner s session)
         (here_of S.state B.state K.written K.faults T.written T.faults manner t next) result };
 
     ghost Keeps = { KeepsServer B.name };
 }
 
-impl<'a, R: Revisions, S: BlockStore, B: Behind<S>, K: Sink, T: Sink, D: Digester> Server<
+impl<'a, R: Revisions, S: BlockStore, B: Commit<S>, K: Sink, T: Sink, D: Digester> Server<
     'a,
     R,
     S,
@@ -366,7 +366,7 @@ impl<'a, R: Revisions, S: BlockStore, B: Behind<S>, K: Sink, T: Sink, D: Digeste
         alloc: Global,
         engine: &'a mut Engine<R>,
         store: &'a mut S,
-        behind: &'a mut B,
+        commit: &'a mut B,
         out: &'a mut K,
         trace: &'a mut T,
         digest: &'a mut D,
@@ -375,7 +375,7 @@ impl<'a, R: Revisions, S: BlockStore, B: Behind<S>, K: Sink, T: Sink, D: Digeste
           alloc = alloc;
           engine = engine.entry;
           store = store.entry;
-          behind = behind.entry;
+          commit = commit.entry;
           out = out.entry;
           trace = trace.entry;
           digest = digest.entry;
@@ -385,7 +385,7 @@ impl<'a, R: Revisions, S: BlockStore, B: Behind<S>, K: Sink, T: Sink, D: Digeste
             alloc,
             engine,
             store,
-            behind,
+            commit,
             out,
             trace,
             digest,
@@ -412,7 +412,7 @@ impl<'a, R: Revisions, S: BlockStore, B: Behind<S>, K: Sink, T: Sink, D: Digeste
             session.batch.as_slice(),
             self.engine,
             self.store,
-            self.behind,
+            self.commit,
             self.out,
             self.trace,
             self.digest,
@@ -481,7 +481,7 @@ impl<'a, R: Revisions, S: BlockStore, B: Behind<S>, K: Sink, T: Sink, D: Digeste
             session.tally,
             self.engine,
             self.store,
-            self.behind,
+            self.commit,
             &stmt,
             self.out,
             self.trace,
@@ -520,7 +520,7 @@ impl<'a, R: Revisions, S: BlockStore, B: Behind<S>, K: Sink, T: Sink, D: Digeste
         }
     }
 
-    // Answers a text that is no statement, behind those that wait.
+    // Answers a text that is no statement, after those that wait.
     fn take_misspelt(
         &mut self,
         manner: Manner,
@@ -673,7 +673,7 @@ impl<'a, R: Revisions, S: BlockStore, B: Behind<S>, K: Sink, T: Sink, D: Digeste
                 Err(Halt::SourceFault) => return Ok(Some(Stop::SourceFault)),
                 Err(Halt::InputLimit) => return Ok(Some(Stop::InputLimit)),
                 Ok(None) => return self.finish(manner, session),
-                Ok(Some(b)) => match self.turn(manner, session, b) {
+                Ok(Some(b)) => match self.take_byte(manner, session, b) {
                     Ok(None) => {}
                     Ok(Some(stop)) => return Ok(Some(stop)),
                     Err(halted) => return Err(halted),
@@ -735,9 +735,9 @@ impl<'a, R: Revisions, S: BlockStore, B: Behind<S>, K: Sink, T: Sink, D: Digeste
     }
 }
 
-/// Serves the texts that a feed brings, to its end or a stop, with what is behind each statement, and then those that wait.
+/// Serves the texts that a feed brings, to its end or a stop, with what commits each statement, and then those that wait.
 /// Tells what was counted of them.
-pub fn serve<I: Source, R: Revisions, S: BlockStore, B: Behind<S>, K: Sink, T: Sink, D: Digester>(
+pub fn serve<I: Source, R: Revisions, S: BlockStore, B: Commit<S>, K: Sink, T: Sink, D: Digester>(
     alloc: Global,
     tracing: bool,
     flight: Option<FlightSettings>,
@@ -745,23 +745,23 @@ pub fn serve<I: Source, R: Revisions, S: BlockStore, B: Behind<S>, K: Sink, T: S
     input: &mut I,
     engine: &mut Engine<R>,
     store: &mut S,
-    behind: &mut B,
+    commit: &mut B,
     out: &mut K,
     trace: &mut T,
     digest: &mut D,
 ) -> Result<Tally, Halted>
-    requires ready { IsReady R.state (B.Saves behind.old)
-        (machine_of engine.old (S.state store.old) (B.state behind.old) no_flights) }
+    requires ready { IsReady R.state (B.Saves commit.old)
+        (machine_of engine.old (S.state store.old) (B.state commit.old) no_flights) }
     requires fed_by { IsFedBy feed.old (I.gave input.old) }
     requires took { D.took digest.old (S.state store.old).asked }
-    ensures ready { OnOk result (IsReady R.state (B.Saves behind.new)
-        (machine_of engine.new (S.state store.new) (B.state behind.new) no_flights)) }
+    ensures ready { OnOk result (IsReady R.state (B.Saves commit.new)
+        (machine_of engine.new (S.state store.new) (B.state commit.new) no_flights)) }
     ensures ran { (left : Flights) × SessionRan R.state tracing feed.old feed.new
         (I.left input.old) (I.left input.new) (I.gave input.new)
         (K.written out.old) (K.written out.new) (T.written trace.old) (T.written trace.new)
-        (machine_of engine.old (S.state store.old) (B.state behind.old)
+        (machine_of engine.old (S.state store.old) (B.state commit.old)
         (flights_at flight))
-        (machine_of engine.new (S.state store.new) (B.state behind.new) left)
+        (machine_of engine.new (S.state store.new) (B.state commit.new) left)
         (OutFailed (is_quiet result) (K.faults out.old) (K.faults out.new)) (stop_of result) }
     ensures within { feed.new.taken ≤ feed.new.limit }
     ensures fed_by { IsFedBy feed.new (I.gave input.new) }
@@ -773,7 +773,7 @@ pub fn serve<I: Source, R: Revisions, S: BlockStore, B: Behind<S>, K: Sink, T: S
     ensures quiet { Silenced (is_quiet result)
         (faults_of (I.faults input.old) (K.faults out.old) (T.faults trace.old))
         (faults_of (I.faults input.new) (K.faults out.new) (T.faults trace.new)) }
-    ensures same { B.name behind.new ≡ B.name behind.old }
+    ensures same { B.name commit.new ≡ B.name commit.old }
     ensures took { OnOk result (D.took digest.new (S.state store.new).asked) }
 {
     let manner = Manner { tracing, flight };
@@ -783,6 +783,6 @@ pub fn serve<I: Source, R: Revisions, S: BlockStore, B: Behind<S>, K: Sink, T: S
         tally: Tally::new(),
         turns: turns_of(flight),
     };
-    let mut server = Server::new(alloc, engine, store, behind, out, trace, digest);
+    let mut server = Server::new(alloc, engine, store, commit, out, trace, digest);
     server.serve_feed(manner, &mut session, feed, input)
 }

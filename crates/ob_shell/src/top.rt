@@ -26,7 +26,7 @@ use crate::generating::serve_generated;
 use crate::key::{FirstLine, read_key};
 use crate::session::{Halted, serve};
 use ob_base::Stop;
-use ob_exec::{Engine, Unsaved};
+use ob_exec::{Engine, NoCommit};
 use ob_gen::{Digester, Tally, Undigested};
 use ob_headline::{Ending, Report};
 use ob_io::{Sink, Source};
@@ -166,7 +166,7 @@ pub(crate) fn serve_with<I: Source, O: Sink, T: Sink, D: Digester, S: BlockStore
                 input,
                 &mut engine,
                 store,
-                &mut Unsaved,
+                &mut NoCommit,
                 out,
                 trace,
                 digest,
@@ -176,7 +176,7 @@ pub(crate) fn serve_with<I: Source, O: Sink, T: Sink, D: Digester, S: BlockStore
     }
 }
 
-// Reads the first line and serves the texts: all but the last line.
+// Reads the first line and serves the texts: all except the last line.
 pub(crate) fn run<I: Source, O: Sink, T: Sink, D: Digester, S: BlockStore>(
     alloc: Global,
     words: Words,

@@ -10,13 +10,13 @@ use Rattle.ob_blocks.specs.Blocks.{none_of, up_to, block_at}
 use Rattle.ob_blocks.proofs.Blocks.{take_blocks, length-up_to}
 use Rattle.ob_small.specs.Keeping.{chosen}
 
--- the slot behind the first ones
+-- the slot after the first ones
 at_seam : (first : Slots) (s : Option Row) (slots : Slots) → slot_at (first ++ s ∷ slots) (length first) ≡ s
 at_seam [] None slots = refl
 at_seam [] (Some row) slots = refl
 at_seam (x ∷ first) s slots = at_seam first s slots
 
--- those at the selected places behind the first ones
+-- those at the selected places after the first ones
 behind : (p : Row → Bool) (first slots : Slots) → filter (is_selected p) slots ≡ map (slot_at (first ++ slots)) (places_from (length first) (is_selected p) slots)
 behind p first [] = refl
 behind p first (s ∷ slots) =

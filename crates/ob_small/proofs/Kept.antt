@@ -12,7 +12,7 @@ use Rattle.ob_flat.specs.Slots.{AreSlots}
 use Rattle.ob_flat.proofs.Rows.{slots_of, row_same, row_other}
 use Rattle.ob_small.specs.Keeping.{AreKept}
 
--- what stands behind them is empty
+-- what stands after them is empty
 pub at_taken : (k i : ℕ) (slots : Slots) → k ≤ i → slice_index_or (take k slots) i None ≡ None
 at_taken k i slots past = get_or_past (take k slots) i None (omega (arith, length-take k slots))
 

@@ -63,7 +63,7 @@ module _ (P : ℕ → World → Type 0) (first : ℕ) (a : World) where
   pub extends_none : Extends P first 0 a a
   extends_none = record { each = λ p below old. old (omega (arith, below)) }
 
-  -- one place more, and more behind those
+  -- one place more, and more after those
   pub extends_one : (b : World) → ((p : ℕ) → p < first → P p a → P p b) → P first b → Extends P first 1 a b
   extends_one b stays here = record {
     each = λ p below old. elim (cases_lt p first) [

@@ -16,7 +16,7 @@ chosen p slots = filter (is_selected p) slots
 abbrev pub fitted : ℕ → Slots → Slots
 fitted k slots = up_to k (take k slots)
 
--- the rows spell the first k of these slots from number `from` on, and empty ones behind them
+-- the rows spell the first k of these slots from number `from` on, and empty ones after them
 pub record AreKept (columns : Columns) (slots : Slots) (from k : ℕ)
     (rows : List (List ℕ)) : Type 0 where
   pub each : (i : ℕ) → i < length rows

@@ -19,7 +19,7 @@ use ob_vault::{Revisions, Vault};
 /// Reads one block of a table into these rows, as many as a block has, and keeps those of its selected rows
 /// that have a number from `from` on and below `k`, as many as there is space for: `seen` selected rows come
 /// before it. Answers how many there are with its own. Before the first block the kept rows are dummies, and
-/// so are those behind the last one that is kept.
+/// so are those after the last one that is kept.
 ///
 /// `Failed` where the store failed, and `Tampered` where the block is not what was written there last, or
 /// has a malformed row.

@@ -12,7 +12,7 @@ ghost use Rattle.ob_small.specs.Selection.{AreBuffers, Selects, select_of, selec
 
 use crate::filling::fill_result;
 use ob_flat::{Flat, OpErr, make_table};
-use ob_room::{ClearRow, Room};
+use ob_room::{ClearRow, RowBuffer};
 use ob_row::Pred;
 use ob_store::BlockStore;
 use ob_vault::{Order, Revisions, Vault};
@@ -70,7 +70,7 @@ fn select_rows<S: BlockStore, R: Revisions>(
 pub fn select<S: BlockStore, R: Revisions>(
     store: &mut S,
     vault: &mut Vault<R>,
-    room: &mut Room,
+    room: &mut RowBuffer,
     flat: &Flat,
     pred: &Pred,
     k: u32,
@@ -98,7 +98,7 @@ pub fn select<S: BlockStore, R: Revisions>(
 }
 
 /// Selects the first `q` rows of a table that make the condition true into a fresh region of `q` slots, in
-/// order of their slots, with empty slots behind them where there are fewer: as [`select`] does, but for a
+/// order of their slots, with empty slots after them where there are fewer: as [`select`] does, except for a
 /// `q` that is no number of selected rows, from 1 to that of the table's slots. A result is padded so: what
 /// is asked follows from `q` alone, whatever the rows are.
 ///
@@ -106,7 +106,7 @@ pub fn select<S: BlockStore, R: Revisions>(
 pub fn select_padded<S: BlockStore, R: Revisions>(
     store: &mut S,
     vault: &mut Vault<R>,
-    room: &mut Room,
+    room: &mut RowBuffer,
     flat: &Flat,
     pred: &Pred,
     q: u32,

@@ -26,7 +26,7 @@ use Rattle.ob_stages.proofs.GroupsEnds.{all, ended_by, fits, gathered, groups_fa
 use Rattle.ob_stages.proofs.ReadingEnds.{answered_by, finishes_ok}
 use Rattle.ob_stages.proofs.TotalsLemmas.{leads_join, leads_none}
 
--- behind its answer
+-- after its answer
 abbrev pub groups_then : GroupsFlight → Reading → GroupsFlight
 groups_then f r = record { reading = r; key = f.key; items = f.items; buckets = f.buckets; n = f.n }
 

@@ -1,4 +1,4 @@
--- A read of a SELECT of totals in flight: what it asked, and how it stands behind it.
+-- A read of a SELECT of totals in flight: what it asked, and how it stands after it.
 use Rattle.std.proofs.Common.{◌≡◌, ◌⊎◌, inl, inr, ◌<◌, ◌≤◌, ◌+◌, ◌++◌, ◌==◌, ℕ, Bool, true, false, List, [], Option, Some, None, Ok, Err, refl, sym, ◌∙◌, ap, subst, arith}
 use Rattle.std.proofs.lemmas.Bool.{eqb-false}
 use Rattle.std.proofs.lemmas.List.{append-nil}
@@ -161,7 +161,7 @@ module _ (r : Reading) (left : is_over r ≡ false) where
       seals = λ good accepts. seals.seals good;
     }
 
-  -- ---- how it stands behind it
+  -- ---- how it stands after it
   module _ (events : List Event) (old new : World) (is : IsReading r events old) (lasts : Lasts none old new) where
     silent : events ≡ []
     silent = subst (λ (o : Option Outcome). Answered o r events old) (is.going left) is.answered

@@ -53,7 +53,7 @@ module _ (g : RowsAt) (kept : List (List ℕ)) (events : List Event) (w : World)
       let whole : (selection_seen g.q slots).end ≡ Whole = ap (λ (s : Seen). s.end) meaning ∙ ended_end g.q.public.pad (length (places g.q slots)) in
       subst (GoesOn g.asked) (sym whole) tt
 
-  -- behind its count
+  -- after its count
   takes_meant : (done : ℕ) → HasCounted g done → IsCountOf g w (all_selected g) → MayTake g (selection_seen g.q slots)
   takes_meant done at count =
       let same = count_is g w (rows_skeleton g.select) is.placed.flown slots held honest.nolie count in

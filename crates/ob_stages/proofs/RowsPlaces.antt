@@ -1,4 +1,4 @@
--- Where a SELECT of rows in flight is behind each step.
+-- Where a SELECT of rows in flight is after each step.
 use Rattle.std.proofs.Common.{◌≡◌, ◌<◌, ◌≤◌, ◌+◌, ◌-◌, ◌*◌, ℕ, Bool, true, false, List, [], refl, sym, ◌∙◌, ap, subst, arith, length-append}
 use Rattle.std.specs.Prelude.{Option, Some, None, length, nat_lt, slice_get, unwrap_or}
 use Rattle.std.proofs.lemmas.Bool.Decides.{nat_tests}
@@ -54,7 +54,7 @@ known_same q (Some pad) c k n is =
     let same : taken q k ≡ taken q n = ap (λ (o : Option ℕ). taken_by o q.flat.capacity k) is ∙ sym (ap (λ (o : Option ℕ). taken_by o q.flat.capacity n) is) in
     ap (λ (t : ℕ). table_blocks q + 1 + Smalls.fill_length (Smalls.select_of q.public.pack (kept_blocks q) q.flat q.condition t) + Smalls.results (Smalls.select_of q.public.pack (kept_blocks q) q.flat q.condition t) + 1) same
 
--- behind a step it is placed
+-- after a step it is placed
 module _ (g : RowsAt) (is : IsPlaced g) (going : is_over g.stage ≡ false) (stage : Stage) (region : Option ℕ) (k n b : ℕ) (seen : Seen) where
   pub placed_next : PlacedAt stage (stepped g stage region k n b seen) → ShownAt stage n → b ≡ known stage g.q.public.pad (table_blocks g.q) (whole_length g.q k) - (g.asked + 1)
       → IsPlaced (stepped g stage region k n b seen)
@@ -154,7 +154,7 @@ module _ (g : RowsAt) (is : IsPlaced g) (u : ℕ) (same : g.stage ≡ Count u) w
         empty : (p : Rattle.ob_base.specs.declared.config.Public.Public) (r : ℕ) (seen : Seen) → seen ≡ counted 0 None None Whole → g.q.public.pad ≡ None → behind_count g.q.public.pad p seen r (extent_of (region_of g.q)) [] ≡ []
         empty p r seen is_seen unpadded = (λ i. behind_count (unpadded i) p (is_seen i) r (extent_of (region_of g.q)) [])
 
--- ---- behind it
+-- ---- after it
 module _ (g : RowsAt) (is : IsPlaced g) (stage : Stage) (same : g.stage ≡ stage) where
   pub booked_at : g.booked ≡ known stage g.q.public.pad (table_blocks g.q) (whole_length g.q g.k) - g.asked
   booked_at = is.booked ∙ ap (λ (s : Stage). known s g.q.public.pad (table_blocks g.q) (whole_length g.q g.k) - g.asked) same

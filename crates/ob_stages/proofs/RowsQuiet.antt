@@ -87,7 +87,7 @@ module _ (g h : RowsAt) (access : Access) (e : OpErr) (old new : World) (stopped
     halts = λ events held. halts_quiet g kept events e old new held going honest counted memory;
   }
 
--- what may be served behind a step of one that has counted might be before it
+-- what may be served after a step of one that has counted might be before it
 pub may_before : (g : RowsAt) → is_behind g.stage ≡ true → IsPlaced g → (done : ℕ) → HasCounted g done → (next : Stage) → ((u : ℕ) → next ≡ Count u → ⊥) → (region : Option ℕ) (n b : ℕ)
     → (x : Served) → MayServe (stepped g next region g.k n b g.seen) x → MayServe g x
 may_before g behind is done at next off region n b x may = record {
@@ -97,7 +97,7 @@ may_before g behind is done at next off region n b x may = record {
   may = see_of g g.stage behind x.seen (may_behind g done at next region n b x.seen g.seen off (refl, refl, refl) (goes_whole g g.asked g.seen g.q.public.pad g.k at.seen) may.may);
 }
 
--- ---- behind the make
+-- ---- after the make
 module _ (g : RowsAt) (stage : Stage) (same : g.stage ≡ stage) (behind : is_behind stage ≡ true) (all : known stage g.q.public.pad (table_blocks g.q) (whole_length g.q g.k) ≡ whole_length g.q g.k)
     (is : IsPlaced g) (at : PlacedAt stage g) (others : ℕ) (access : Access) (old : World) (spare : others + g.booked ≤ old.store.spare)
     (next : (x : Served) → MayServe g x → act_of (progress_of g) x old.vault.next ≡ Some access) (stays : KeepsRegion access old.vault.next g.region g.region) where
@@ -371,7 +371,7 @@ module _ (g : RowsAt) (own others : ℕ) (old : World) (steps : StepsAt g Discar
     halts = tt;
   }
 
--- ---- its result is made, behind room that was taken
+-- ---- its result is made, after room that was taken
 module _ (g : RowsAt) (others : ℕ) (kept : List (List ℕ)) (v : VaultState) (s t : StoreState) (steps : StepsAt g Make others (record { vault = v; store = s })) (is : IsHeld (Holds g kept) (record { vault = v; store = s }))
     (rests : ChangesNothing s t) where
   abbrev start : World

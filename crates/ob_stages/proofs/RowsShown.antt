@@ -132,7 +132,7 @@ module _ {E : Type 0} (grew cut : E → E → List Event → Type 0) (faults : E
   abbrev pub emit_to : Stage → (n : ℕ) → RowsAt
   emit_to stage n = stepped g stage g.region g.k n (g.booked - 1) g.seen
 
-  -- what was emitted by then stands behind it
+  -- what was emitted by then stands after it
   shown_next : (n : ℕ) (more : List Event) (rows : List (List Shown)) (stage : Stage) (new : World) → Lasts none old new → (passes_pad g ≡ true → n ≡ 0)
       → events ++ more ≡ events_if (is_shown (passes_pad g) (x + 1)) g.q rows
       → (passes_pad g ≡ false → HasEmitted g.q.public.pack (result_in g.q g.k own) g.q.cols (x + 1) n rows new) → HasShown (emit_to stage n) (x + 1) (events ++ more) new
@@ -178,7 +178,7 @@ module _ {E : Type 0} (grew cut : E → E → List Event → Type 0) (faults : E
       by_test true less = emits_on n more new lasts (less_so _ _ less) (shown_next n more rows (Emit (x + 1)) new lasts passed is_events emitted)
       by_test false last = emits_last n more new lasts (not_less _ _ last) (shown_next n more rows Discard new lasts passed is_events emitted)
 
-  -- events behind a block
+  -- events after a block
   pub events_next : (more : List (List Shown)) → passes_pad g ≡ false → events ++ (left_of (x == 0) g.q ++ row_events more) ≡ events_if (is_shown (passes_pad g) (x + 1)) g.q (shown.rows ++ more)
   events_next more unpassed =
       ap (λ (l : List Event). l ++ (left_of (x == 0) g.q ++ row_events more)) (shown.is ∙ ap (λ (b : Bool). events_if (is_shown b x) g.q shown.rows) unpassed)

@@ -1,4 +1,4 @@
--- How a SELECT of rows in flight stands behind each step.
+-- How a SELECT of rows in flight stands after each step.
 use Rattle.std.proofs.Common.{◌≡◌, ◌<◌, ◌≤◌, ◌+◌, ◌-◌, ◌*◌, ◌∷◌, ◌++◌, ℕ, zero, suc, Bool, true, false, not, List, [], refl, sym, ◌∙◌, ap, subst, arith}
 use Rattle.std.specs.Prelude.{Option, Some, None, Ok, length, min, nat_lt, take, drop, if◌then◌else◌}
 use Rattle.std.proofs.lemmas.List.{append-nil}

@@ -59,7 +59,7 @@ module _ (q : Selection) (s : Skeleton) (flown : IsFlown q s) (slots : Slots) wh
     second = ap (λ (x : Seen). x.then) is ∙ held_empty (nat_le (walked_after q (selection_seen q slots)) n) (selection_seen q slots).then second_none;
   }
 
-  -- behind its count
+  -- after its count
   late_held_by : (pad : Option ℕ) (k n : ℕ) (seen : Seen) → q.public.pad ≡ pad → k ≡ length (places q slots) → 1 ≤ k ⊎ (pad ≡ None → ⊥) → seen ≡ seen_taking pad k → table_blocks q ≤ n → HoldsSeen q slots false n seen
   late_held_by None zero n seen is same some taking enough = absurd (elim some [ inl more ↦ omega (arith, more) | inr padded ↦ padded refl ])
   late_held_by None (suc k) n seen is same some taking enough =
@@ -90,7 +90,7 @@ module _ (g : RowsAt) (w : World) where
   some_rows n is (Some pad) same = inr (λ none. cc none)
 
   module _ (s : Skeleton) (flown : IsFlown g.q s) (slots : Slots) (held : Represents g.q.public.pack g.q.flat slots w) (nolie : w.store.lie ≡ None) where
-    -- behind the count it is that of these slots
+    -- after the count it is that of these slots
     pub count_is : IsCountOf g w (all_selected g) → g.k ≡ length (places g.q slots)
     count_is is = is.told slots held nolie ∙ count_places g.q slots
 

@@ -98,7 +98,7 @@ module _ (f : TotalsFlight) (events : List Event) (w : World) (is : IsTotalling 
     }
 
 -- ---- its end
--- behind its answer
+-- after its answer
 abbrev pub totals_then : TotalsFlight → Reading → TotalsFlight
 totals_then f r = record { reading = r; aggs = f.aggs; sums = f.sums }
 

@@ -5,15 +5,15 @@ use Rattle.std.proofs.lemmas.List.{length-take}
 use Rattle.std.proofs.lemmas.Option.{slice_get_past}
 use Rattle.ob_base.specs.declared.access.Access.{Access}
 use Rattle.ob_base.specs.declared.seen.End.{End}
-use Rattle.ob_base.specs.declared.seen.End.TheVariants.{Static, Whole, AfterCount, Joined, Cut}
+use Rattle.ob_base.specs.declared.seen.End.TheVariants.{Static, Whole, AfterCount, Batched, Cut}
 use Rattle.ob_script.specs.Script.{until_end}
 
--- it goes on, or is cut off behind its next access at least
+-- it goes on, or is cut off after its next access at least
 abbrev pub GoesOn : (asked : ℕ) → End → Type 0
 GoesOn asked Static = ⊥
 GoesOn asked Whole = Unit {0}
 GoesOn asked AfterCount = ⊥
-GoesOn asked Joined = ⊥
+GoesOn asked Batched = ⊥
 GoesOn asked (Cut n) = asked < n
 
 -- of a first part
@@ -29,7 +29,7 @@ pub at_going : (end : End) (all : List Access) (i : ℕ) (a : Access) → GoesOn
 at_going Static all i a goes is = absurd goes
 at_going Whole all i a goes is = is
 at_going AfterCount all i a goes is = absurd goes
-at_going Joined all i a goes is = absurd goes
+at_going Batched all i a goes is = absurd goes
 at_going (Cut n) all i a goes is = at_taken all n i goes ∙ is
 
 -- nothing is left of it

@@ -112,7 +112,7 @@ pub record MayBoard (p : Public) (n : ℕ) (s : SelectTotals) (t : Flat) (c : Co
   pub meant : c ≡ where_at s.cond t.schema
   pub items : TotalsFit t.schema s
 
--- it comes to its end, or will be cut off behind what was asked; one that failed was cut off there
+-- it comes to its end, or will be cut off after what was asked; one that failed was cut off there
 abbrev pub EndsLater : (failed : Bool) → (asked : ℕ) → End → Type 0
 EndsLater true asked end = end ≡ Cut asked
 EndsLater false asked end = (end ≡ Whole) ⊎ ((n : ℕ) × (end ≡ Cut n) × (asked < n))

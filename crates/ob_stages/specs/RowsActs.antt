@@ -40,7 +40,7 @@ use Rattle.ob_select.proofs.ResultParts.{buffered_some}
 abbrev pub with_region : Selection → ℕ → Public
 with_region q r = record q.public { next_region = r }
 
--- what is left of the list behind a result: nothing
+-- what is left of the list after a result: nothing
 abbrev pub left_by : (pad : Option ℕ) → Public → Seen → (k r : ℕ) → Stored ℕ → List Access
 left_by None p seen k r t = result_part p seen.then k (r + 1) (extent_of t) ++ []
 left_by (Some pad) p seen k r t = []

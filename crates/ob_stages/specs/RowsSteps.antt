@@ -51,7 +51,7 @@ pub record StepsAt (g : RowsAt) (stage : Stage) (others : ℕ) (w : World) : Typ
 abbrev pub gone_to : Stage → RowsAt → RowsAt
 gone_to stage g = record g { stage = stage; asked = g.asked + 1; booked = g.booked - 1 }
 
--- a block was counted, behind which it has come to this
+-- a block was counted, after which it has come to this
 abbrev pub counted_whole : (pad : Option ℕ) → (k : ℕ) → RowsAt → RowsAt
 counted_whole None zero g = gone_to Over (record g { seen = record g.seen { k = Some 0 } })
 counted_whole None (suc k) g = gone_to Make (record g { seen = record g.seen { k = Some (suc k); plan = Some Small } })
@@ -125,7 +125,7 @@ pub record WalksInstead {E : Type 0} (pack : ℕ) (fresh : Flat) (place : ℕ) (
   pub none : IfOk result (λ n. n ≡ 0)
   pub quiet : out_new ≡ out_old
 
--- or its rows were emitted, behind the header at the first one
+-- or its rows were emitted, after the header at the first one
 pub record ShowsBehind {E : Type 0} (grew cut : E → E → List Event → Type 0) (faults : E → ℕ) (pack : ℕ)
     (g : RowsAt) (fresh : Flat) (place : ℕ) (result : Result ℕ OpErr) (old new : World)
     (out_old out_new : E) : Type 0 where

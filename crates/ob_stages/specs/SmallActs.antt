@@ -30,7 +30,7 @@ module _ (t g blocks results q width : ℕ) (some : 1 ≤ q) (rest : List Access
   pub act_in_count : (u : ℕ) → u < blocks → slice_get all u ≡ Some (Read t u)
   act_in_count u below = at_front (count_part t blocks) behind u (Read t u) (at_read t blocks u below)
 
-  -- behind it
+  -- after it
   at_behind : (i j : ℕ) (a : Access) → i ≡ blocks + j → slice_get behind j ≡ Some a → slice_get all i ≡ Some a
   at_behind i j a is at = at_back (count_part t blocks) behind i j a (is ∙ ap (λ (n : ℕ). n + j) (sym (length-count_part t blocks))) at
 

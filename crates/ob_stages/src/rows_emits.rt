@@ -33,7 +33,7 @@ fn begin<E: Emit>(flight: &RowsFlight<'_>, first: bool, out: &mut E) -> Result<(
     emit_head(&flight.flat.schema, flight.cols.as_slice(), out)
 }
 
-// Reads a block of its result, and emits its rows, behind the header at the first block; of a result that is refused it emits
+// Reads a block of its result, and emits its rows, after the header at the first block; of a result that is refused it emits
 // nothing. Answers how many rows it has emitted by then.
 fn show<S: BlockStore, R: Revisions, E: Emit>(
     flight: &RowsFlight<'_>,

@@ -123,7 +123,7 @@ impl<'a> RowsFlight<'a> {
     }
 
     // ---- the next stage
-    // Behind a block of the table that was read in a pass, by which so many selected rows were seen.
+    // After a block of the table that was read in a pass, by which so many selected rows were seen.
     pub(crate) fn after_read(&self, pass: u32, place: u32, seen: u32) -> Stage
         requires sized { IsSizedAt (rows_at self.now) }
         requires below { place < table_blocks (rows_selection self.now) }
@@ -140,7 +140,7 @@ impl<'a> RowsFlight<'a> {
         }
     }
 
-    // Behind a block that was written.
+    // After a block that was written.
     pub(crate) fn after_write(&self, pass: u32, place: u32) -> Stage
         requires sized { IsSizedAt (rows_at self.now) }
         requires few { self.now.k ≤ self.now.flat.capacity }
@@ -165,7 +165,7 @@ impl<'a> RowsFlight<'a> {
         }
     }
 
-    // Behind a block of its result that was read back.
+    // After a block of its result that was read back.
     pub(crate) fn after_emit(&self, place: u32) -> Stage
         requires sized { IsSizedAt (rows_at self.now) }
         requires few { self.now.k ≤ self.now.flat.capacity }

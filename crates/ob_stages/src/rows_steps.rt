@@ -69,7 +69,7 @@ fn write_part<S: BlockStore, R: Revisions>(
 }
 
 impl<'a> RowsFlight<'a> {
-    // One access more was asked, behind which it is at this stage.
+    // One access more was asked, after which it is at this stage.
     pub(crate) fn go(&mut self, stage: Stage)
         requires few { self.old.asked < 2 ^ 56 }
         requires some { 1 ≤ self.old.booked }
@@ -105,7 +105,7 @@ impl<'a> RowsFlight<'a> {
         self.stage = Stage::Over;
     }
 
-    // Behind a block that was counted, so many rows are selected by now.
+    // After a block that was counted, so many rows are selected by now.
     fn counted(&mut self, place: u32, n: u32)
         requires sized { IsSizedAt (rows_at self.old) }
         requires few { self.old.asked < 2 ^ 56 }
@@ -197,7 +197,7 @@ impl<'a> RowsFlight<'a> {
             return Ok(self.booked);
         }
         let rest = self.length() - self.asked;
-        store.room(others + rest)?;
+        store.reserve(others + rest)?;
         Ok(rest)
     }
 

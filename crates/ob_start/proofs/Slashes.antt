@@ -10,7 +10,7 @@ use Rattle.ob_file.specs.Paths.{is_slash}
 use Rattle.ob_start.specs.Places.{unslashed}
 
 module _ (s : List ℕ) where
-  -- all behind this part are slashes
+  -- all after this part are slashes
   abbrev IsFront : List ℕ → Type 0
   IsFront r = (length r ≤ length s) × (r ≡ take (length r) s) × ((k : ℕ) → length r ≤ k → k < length s → slice_index s k ≡ 47)
 

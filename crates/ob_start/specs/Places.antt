@@ -14,7 +14,7 @@ abbrev pub is_within : List ℕ → Bool
 is_within [] = true
 is_within (c ∷ cs) = c == 47
 
--- a path that is a folder's, or goes on behind it with a slash
+-- a path that is a folder's, or goes on after it with a slash
 abbrev pub is_inside : (path folder : List ℕ) → Bool
 is_inside path folder = begins folder path && is_within (drop (length folder) path)
 

@@ -35,7 +35,7 @@ pub struct SavedStore {
     pub store: File,
 }
 
-/// The paths of a store's folder, with a slash behind it and without, of what lies in it beside the regions, and of its
+/// The paths of a store's folder, with a slash after it and without, of what lies in it beside the regions, and of its
 /// mark; and the text that was read of one of them.
 #[derive(Drop)]
 struct Folder {

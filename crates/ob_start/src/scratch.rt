@@ -17,7 +17,7 @@ pub struct Scratch {
 }
 
 impl Scratch {
-    /// Takes the file away, behind the regions.
+    /// Takes the file away, after the regions.
     pub fn end<R: Files>(self, files: &R) {
         let _ = remove_file(files, self.path.as_str());
     }

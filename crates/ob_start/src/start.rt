@@ -122,7 +122,7 @@ pub enum FoundStore {
     Nothing,
     /// What has it is no folder.
     NoFolder,
-    /// A folder that has no identity, and nothing but what a first run makes before it.
+    /// A folder that has no identity, and nothing except what a first run makes before it.
     Bare,
     /// A folder that has none, and something else.
     Foreign,

@@ -1,9 +1,9 @@
--- A log that has let go of some accesses, and has the runs of those behind them.
+-- A log that has let go of some accesses, and has the runs of those after them.
 use Rattle.std.proofs.Common.{◌≡◌, ◌≤◌, ◌-◌, ℕ, zero, suc, List, [], ◌∷◌, ◌++◌, length, slice_get, refl, ◌∙◌, ap, arith}
 use Rattle.ob_store.specs.Kept.{IsLog, Sound}
 use Rattle.ob_store.specs.Logs.{spelt}
 
--- an entry behind the first part of a list
+-- an entry after the first part of a list
 pub get_behind : {A : Type 0} (xs ys : List A) (i : ℕ) → length xs ≤ i → slice_get (xs ++ ys) i ≡ slice_get ys (i - length xs)
 get_behind [] ys i behind = ap (slice_get ys) (omega arith)
 get_behind (x ∷ xs) ys zero behind = absurd (omega arith)

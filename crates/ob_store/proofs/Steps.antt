@@ -3,7 +3,7 @@ use Rattle.std.proofs.Common.{◌≡◌, ◌≢◌, ◌⊎◌, inl, inr, ℕ, ze
 use Rattle.std.proofs.lemmas.List.{append-nil, take_at}
 use Rattle.std.proofs.lemmas.Bool.{cases_eq}
 use Rattle.ob_base.specs.declared.access.Access.{Access}
-use Rattle.ob_store.specs.State.{Lie, Disturbance, StoreState}
+use Rattle.ob_store.specs.State.{FalseRead, Disturbance, StoreState}
 use Rattle.ob_store.specs.Calls.{Asks, ReadGives, ChangesNothing, IsBefore}
 use Rattle.ob_base.specs.Lists.{each}
 use Rattle.ob_store.specs.Runs.{Did, Began, Since, Later}
@@ -71,7 +71,7 @@ later_rests old new rests = record {
 pub none_since : (old new : StoreState) → Since old new → new.lie ≡ None → old.lie ≡ None
 none_since old new since none = none_of old.lie since.lie
   where
-    none_of : (o : Option Lie) → ((lie : Lie) → o ≡ Some lie → new.lie ≡ Some lie) → o ≡ None
+    none_of : (o : Option FalseRead) → ((lie : FalseRead) → o ≡ Some lie → new.lie ≡ Some lie) → o ≡ None
     none_of None stays = refl
     none_of (Some lie) stays = absurd (cc (stays lie refl, none))
 

@@ -6,7 +6,7 @@ use Rattle.ob_base.specs.declared.access.Access.{Access}
 use Rattle.ob_base.specs.declared.fault.Failed.{Failed}
 use Rattle.ob_base.specs.declared.fault.StoreErr.{StoreErr}
 use Rattle.ob_base.specs.declared.fault.StoreErr.TheVariants as StoreErrs
-use Rattle.ob_store.specs.State.{Shape, KeptRegion, Lie, Disturbance, StoreState}
+use Rattle.ob_store.specs.State.{Shape, KeptRegion, FalseRead, Disturbance, StoreState}
 
 pub record IsLive (s : StoreState) (region : ℕ) : Type 0 where
   pub shape : Shape
@@ -31,16 +31,16 @@ abbrev pub IsBefore : Option (List Disturbance) → ℕ → Type 0
 IsBefore None n = ⊥
 IsBefore (Some list) n = list_all (λ d. nat_lt n d.before) list ≡ true
 
--- no call failed, and no read gave anything but what was written last
+-- no call failed, and no read gave anything except what was written last
 pub record IsQuiet (s : StoreState) : Type 0 where
   pub faults : s.faults ≡ 0
   pub slips : s.slips ≡ 0
   pub lie : s.lie ≡ None
 
--- nothing shows before the first access that others disturb, and a read that lied came behind it
+-- nothing shows before the first access that others disturb, and a read that lied came after it
 pub record IsSteady (s : StoreState) : Type 0 where
   pub quiet : IsBefore s.disturbed (length s.asked) → IsQuiet s
-  pub lied : (lie : Lie) → s.lie ≡ Some lie → IsBefore s.disturbed (length lie.before + 1) → ⊥
+  pub lied : (lie : FalseRead) → s.lie ≡ Some lie → IsBefore s.disturbed (length lie.before + 1) → ⊥
 
 -- one access was asked, whatever was answered; a lie stays
 pub record Asks (access : Access) (old new : StoreState) : Type 0 where
@@ -50,7 +50,7 @@ pub record Asks (access : Access) (old new : StoreState) : Type 0 where
   pub faults : old.faults ≤ new.faults
   pub slips : old.slips ≤ new.slips
   pub tells : new.tells ≡ old.tells
-  pub lie : (lie : Lie) → old.lie ≡ Some lie → new.lie ≡ Some lie
+  pub lie : (lie : FalseRead) → old.lie ≡ Some lie → new.lie ≡ Some lie
   pub disturbed : new.disturbed ≡ old.disturbed
   pub steady : IsSteady new
 
@@ -75,7 +75,7 @@ pub record Keeps (old new : StoreState) : Type 0 where
   pub last : (q x : ℕ) → new.last q x ≡ old.last q x
   pub kept : (q : ℕ) → new.kept q ≡ old.kept q
 
--- nothing but this region may have changed
+-- nothing except this region may have changed
 pub record OnlyRegion (region : ℕ) (old new : StoreState) : Type 0 where
   pub live : (q : ℕ) → q ≢ region → new.live q ≡ old.live q
   pub last : (q x : ℕ) → q ≢ region → new.last q x ≡ old.last q x
@@ -95,7 +95,7 @@ pub record ReadGives (region place : ℕ) (bytes : List ℕ) (old new : StoreSta
       → block ≢ bytes
       → new.lie ≡ Some (record { region = region; place = place; bytes = bytes; before = old.asked })
 
--- nothing but this place may have changed
+-- nothing except this place may have changed
 pub record OnlyAt (region place : ℕ) (old new : StoreState) : Type 0 where
   pub live : (q : ℕ) → new.live q ≡ old.live q
   pub elsewhere : (q x : ℕ) → (q ≡ region → x ≡ place → ⊥) → new.last q x ≡ old.last q x
@@ -109,7 +109,7 @@ pub record Holds (region place : ℕ) (block : List ℕ) (old new : StoreState) 
 pub record MayHold (region place : ℕ) (block : List ℕ) (old new : StoreState) : Type 0 where
   pub last : (new.last region place ≡ old.last region place) ⊎ (new.last region place ≡ Some block)
 
--- `room` changes nothing else, and takes none away
+-- `reserve` changes nothing else, and takes none away
 pub record ChangesNothing (old new : StoreState) : Type 0 where
   pub spare : old.spare ≤ new.spare
   pub asked : new.asked ≡ old.asked

@@ -1,4 +1,4 @@
--- How a log keeps its runs: the accesses of all cycles, one cycle behind the other, and where each run begins.
+-- How a log keeps its runs: the accesses of all cycles, one cycle after the other, and where each run begins.
 use Rattle.std.specs.Prelude.{◌≡◌, ◌<◌, ◌≤◌, ◌-◌, ◌^◌, ℕ, zero, suc, List, [], ◌∷◌, length, slice_index_or, slice_range}
 use Rattle.ob_base.specs.declared.access.Access.{Access}
 use Rattle.ob_base.specs.declared.access.Access.TheVariants.{Make, Read, Write, Discard, Open}

@@ -15,7 +15,7 @@ pub record RunsState : Type 0 where
   pub runs : List Run
   pub spare : ℕ
 
--- and of a log: the accesses that it has let go of, the runs of those behind them, and for how many more there is room
+-- and of a log: the accesses that it has let go of, the runs of those after them, and for how many more there is room
 pub record LogState : Type 0 where
   pub past : List Access
   pub runs : List Run

@@ -1,7 +1,7 @@
 -- What a run of calls on a store asks, and what lasts over it.
 use Rattle.std.specs.Prelude.{◌≡◌, ◌≤◌, List, ◌++◌, Some}
 use Rattle.ob_base.specs.declared.access.Access.{Access}
-use Rattle.ob_store.specs.State.{Lie, StoreState}
+use Rattle.ob_store.specs.State.{FalseRead, StoreState}
 use Rattle.ob_store.specs.Calls.{IsSteady}
 
 -- all of the script was asked, and no call failed
@@ -20,7 +20,7 @@ pub record Began (script : List Access) (old new : StoreState) : Type 0 where
 pub record Since (old new : StoreState) : Type 0 where
   pub faults : old.faults ≤ new.faults
   pub tells : new.tells ≡ old.tells
-  pub lie : (lie : Lie) → old.lie ≡ Some lie → new.lie ≡ Some lie
+  pub lie : (lie : FalseRead) → old.lie ≡ Some lie → new.lie ≡ Some lie
   pub disturbed : new.disturbed ≡ old.disturbed
   pub steady : IsSteady old → IsSteady new
 
@@ -29,6 +29,6 @@ pub record Later (old new : StoreState) : Type 0 where
   pub log : new.let_go ≡ old.let_go
   pub faults : old.faults ≤ new.faults
   pub tells : new.tells ≡ old.tells
-  pub lie : (lie : Lie) → old.lie ≡ Some lie → new.lie ≡ Some lie
+  pub lie : (lie : FalseRead) → old.lie ≡ Some lie → new.lie ≡ Some lie
   pub disturbed : new.disturbed ≡ old.disturbed
   pub steady : IsSteady old → IsSteady new

@@ -14,7 +14,7 @@ pub record KeptRegion : Type 0 where
   pub last : ℕ → Option (List ℕ)
 
 -- the first read that gave other bytes than were written, and what was asked before it
-pub record Lie : Type 0 where
+pub record FalseRead : Type 0 where
   pub region : ℕ
   pub place : ℕ
   pub bytes : List ℕ
@@ -44,7 +44,7 @@ pub record StoreState : Type 0 where
   pub tells : Bool
   -- the block last written at a region's place
   pub last : ℕ → ℕ → Option (List ℕ)
-  pub lie : Option Lie
+  pub lie : Option FalseRead
   -- the regions that are kept, for a later run too, where they are told
   pub kept : ℕ → Option KeptRegion
   -- the bytes that the last read gave, where the last access is a read that went well

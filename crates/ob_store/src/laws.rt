@@ -5,7 +5,7 @@ ghost use Rattle.ob_store.specs.Calls.{IsQuiet};
 use crate::memory::MemStore;
 use crate::store::BlockStore;
 
-/// It tells what it holds, and no read gave anything but what was written last; no call has failed, unless a
+/// It tells what it holds, and no read gave anything except what was written last; no call has failed, unless a
 /// region of an earlier run was asked for.
 pub fn memory_is_honest()
     ensures tells { (m : MemStore) → (⟦<MemStore as BlockStore>⟧.state m).tells ≡ true }

@@ -47,7 +47,7 @@ impl Log {
     }
 
     /// Makes room for `n` more accesses, if each begins a run.
-    pub fn room(&mut self, n: u64) -> Result<(), NoMemory>
+    pub fn reserve(&mut self, n: u64) -> Result<(), NoMemory>
         ensures asked { asked_of self.new ≡ asked_of self.old }
         ensures past { self.new.past ≡ self.old.past }
         ensures runs { self.new.runs ≡ self.old.runs }
@@ -57,7 +57,7 @@ impl Log {
         if n > u64::MAX - self.count() {
             return Err(NoMemory);
         }
-        self.runs.room(n)
+        self.runs.reserve(n)
     }
 
     /// Adds an access, in room that was made for it: to the last run if it is that run's next entry; else

@@ -56,7 +56,7 @@ impl Runs {
     }
 
     /// Makes room for `n` more accesses, if each begins a run.
-    pub fn room(&mut self, n: u64) -> Result<(), NoMemory>
+    pub fn reserve(&mut self, n: u64) -> Result<(), NoMemory>
         ensures runs { self.new.runs ≡ self.old.runs }
         ensures kept { self.old.spare ≤ self.new.spare }
         ensures spare { OnOk result (n ≤ self.new.spare) }

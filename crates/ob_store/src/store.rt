@@ -11,11 +11,11 @@ use ob_base::{Access, Failed, NoMemory, StoreErr};
 /// any two calls.
 ///
 /// Each `make`, `read`, `write` and `discard` is one access, which the store lists whatever it answers, until
-/// `let_go`; `room` is none. A store that tells says what was last written at each place, and which read was the
+/// `let_go`; `reserve` is none. A store that tells says what was last written at each place, and which read was the
 /// first that gave other bytes (the lie). `gave` is what the last read gave, of any store. `disturbed` is
 /// what others do between its accesses, where it says so: before the first such access no call fails and
 /// no read lies. `faults` counts the calls of `make`, `read` and `write` that failed, and `slips` those of
-/// `discard`; a count that stands at the last value of a `u64` counts as risen. Only `room` and `make` take
+/// `discard`; a count that stands at the last value of a `u64` counts as risen. Only `reserve` and `make` take
 /// memory.
 pub trait BlockStore {
     ghost state: { Self → StoreState };
@@ -26,7 +26,7 @@ pub trait BlockStore {
     /// Makes room for `n` more accesses in the list.
     ///
     /// `NoMemory` leaves the store as it was.
-    fn room(&mut self, n: u64) -> Result<(), NoMemory>
+    fn reserve(&mut self, n: u64) -> Result<(), NoMemory>
         ensures rests { ChangesNothing (state self.old) (state self.new) }
         ensures spare { OnOk result (n ≤ (state self.new).spare) }
         ensures same { given_up self.new ≡ given_up self.old };
@@ -106,7 +106,7 @@ pub trait BlockStore {
         ensures given_up { given_up self.new
             ≡ Some (record { from = from; asked = length (state self.old).asked }) };
 
-    /// Has the list let go of the accesses so far: from here on it has those behind them alone.
+    /// Has the list let go of the accesses so far: from here on it has those after them alone.
     ///
     /// It is no access, takes no memory, and can't fail.
     fn let_go(&mut self)

@@ -1,4 +1,4 @@
--- What INSERTs of a batch are answered by other settings and behind other accesses, where the tables have the same headings.
+-- What INSERTs of a batch are answered by other settings and after other accesses, where the tables have the same headings.
 use Rattle.ob_tables.proofs.Words.{All-head, All-tail, ap, AreServedWith, Bool, early_refusal, Heading, headings_of, is_late, limits_of, List, Option, Outcome, Public, Refusal, refusal_now, Stmt, subst, sym, ℕ, [], ◌∙◌, ◌∷◌, ◌≡◌}
 use Rattle.std.specs.Prelude.{All}
 use Rattle.ob_mean.proofs.BatchLemmas.{Inserts, early_like}

@@ -1,5 +1,5 @@
 -- An engine is closed: its tables are listed, and rest in the store.
-use Rattle.ob_tables.proofs.Words.{AcceptsClosings, Access, Agrees, ap, append-nil, AreFlat, AreSalted, arith, Began, Bool, Calm, catalogue_of, Closing, count_of, Did, drop_script, Engine, Err, false, flat_of, get_or, HasBlock, Heading, headings_of, inl, inr, InUse, IsCatalogue, IsClosing, IsTrue, KeepsLive, KeySet, later_rests, length, List, Listed, Lives, makes, Mark, MayAsk, neither, None, Ok, one, Option, others_of, Ready, refl, Region, represents_lasts, Rests, Result, RevState, Seals, seals_join, seals_rests, slice_get, Some, Start, start_of, StoreState, subst, suc, sym, Tables, TagFits, true, Vault, Went, went_join, went_rests, World, world_of, WritesClosing, zero, ℕ, [], ◌++◌, ◌+◌, ◌<◌, ◌^◌, ◌||◌, ◌∙◌, ◌∷◌, ◌≡◌, ◌≤◌, ◌⊎◌}
+use Rattle.ob_tables.proofs.Words.{AcceptsClosings, Access, Agrees, ap, append-nil, AreFlat, AreSalted, arith, Began, Bool, Untampered, catalogue_of, Closing, count_of, Did, drop_script, Engine, Err, false, flat_of, get_or, HasBlock, Heading, headings_of, inl, inr, InUse, IsCatalogue, IsClosing, IsTrue, KeepsLive, KeySet, later_rests, length, List, Listed, Lives, makes, Mark, MayAsk, neither, None, Ok, one, Option, others_of, Ready, refl, Region, represents_lasts, IsAtRest, Result, RevState, Seals, seals_join, seals_rests, slice_get, Some, Start, start_of, StoreState, subst, suc, sym, Tables, TagFits, true, Vault, Went, went_join, went_rests, World, world_of, WritesClosing, zero, ℕ, [], ◌++◌, ◌+◌, ◌<◌, ◌^◌, ◌||◌, ◌∙◌, ◌∷◌, ◌≡◌, ◌≤◌, ◌⊎◌}
 use Rattle.std.specs.Prelude.{nat_le}
 use Rattle.std.specs.List.{All}
 use Rattle.std.proofs.lemmas.Bool.{leb-false}
@@ -212,7 +212,7 @@ module _ {R : Type 0} (state : R → RevState) (e : Engine R) (s : StoreState) (
         sealed_as good later keys start seals =
             seals_join good (world_of state e s) last (world_of state e t) later seals (seals_unasked good last (world_of state e t) (sym keys) (sym start) refl (omega arith) (record { live = λ q. refl; last = λ q x. refl; kept = λ q. refl }))
 
-        calm_as : v2.keys ≡ e.vault.keys → start_of v2 ≡ start_of e.vault → Calm last → Calm (world_of state e t)
+        calm_as : v2.keys ≡ e.vault.keys → start_of v2 ≡ start_of e.vault → Untampered last → Untampered (world_of state e t)
         calm_as keys start calm = record {
           calm = λ lie told. subst (λ (b : Start). TagFits e.vault.keys b lie) start (subst (λ (k : KeySet). TagFits k (start_of v2) lie) keys (calm.calm lie told));
           within = calm.within;
@@ -231,7 +231,7 @@ module _ {R : Type 0} (state : R → RevState) (e : Engine R) (s : StoreState) (
                 cause = is.err.cause;
               })
 
-          cause_as : (err : CloseErr) → Cause (vault_error err) (world_of state e s) last → ClosingCause err s t × (Calm (world_of state e s) → Calm last)
+          cause_as : (err : CloseErr) → Cause (vault_error err) (world_of state e s) last → ClosingCause err s t × (Untampered (world_of state e s) → Untampered last)
           cause_as Failed cause = (cause.0, cause.1)
           cause_as NoMemory cause = (cause.0, cause.1)
 
@@ -290,7 +290,7 @@ module _ {R : Type 0} (state : R → RevState) (e : Engine R) (s : StoreState) (
               let same = agrees.next in
               omega (arith, below, next, same, fresh)
 
-          rests : IsTrue s.tells → (tables : Tables) → Represents state e s tables → Rests e.vault.keys (next_closing e s) t.kept (by_name tables)
+          rests : IsTrue s.tells → (tables : Tables) → Represents state e s tables → IsAtRest e.vault.keys (next_closing e s) t.kept (by_name tables)
           rests tells tables held =
               let tells_amid : IsTrue s2.tells = subst IsTrue (sym first.lasts.later.tells) tells in
               let tells_last : IsTrue t.tells = subst IsTrue (sym went.lasts.later.tells) tells in

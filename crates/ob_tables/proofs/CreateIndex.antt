@@ -1,5 +1,5 @@
 -- CREATE TABLE of an index.
-use Rattle.ob_tables.proofs.Words.{accepted_answer, Access, Agrees, allowed, answer_of, ap, append_assoc, AreDraws, AreHeld, AreTables, arith, Bool, Columns, columns_of, count_of, Created, Cut, database, draw_at, draw_seed_of, DrawPlace, Draws, End, Engine, Err, false, followed, free_after, Global, headings_of, height_of, HoldsTable, Index, index_of, Indexed, inl, inr, is_late, is_stop, IsFree, IsIndexOfTable, IsTable, IsTrue, KeepsSealed, key_of, later_rests, length, length-append, Lies, limits_of, List, Lives, map, max, nat_lt, nat_tests, neither, None, Ok, Opens, OpErr, Option, others_of, outcome_of, PassCut, Public, RanStatement, refl, Refusal, refusal, refusal_now, refused_late, Region, replicate, Result, RevState, RoomState, Seals, seals_join, seals_rests, ServesSilently, settle, settled, slice_get, Some, StoreState, subst, suc, sym, table_region, Tables, tabulate, two, Vault, Vec, Went, went_join, went_rests, Whole, whole_run, width, World, world_of, zero, ℕ, [], ◌%◌, ◌*◌, ◌++◌, ◌+◌, ◌-◌, ◌<◌, ◌^◌, ◌∙◌, ◌∷◌, ◌≡◌, ◌≤◌, ◌⊎◌}
+use Rattle.ob_tables.proofs.Words.{accepted_answer, Access, Agrees, allowed, answer_of, ap, append_assoc, AreDraws, AreHeld, AreTables, arith, Bool, Columns, columns_of, count_of, Created, Cut, database, draw_at, draw_seed_of, DrawPlace, Draws, End, Engine, Err, false, followed, free_after, Global, headings_of, height_of, HoldsTable, Index, index_of, Indexed, inl, inr, is_late, is_stop, IsFree, IsIndexOfTable, IsTable, IsTrue, KeepsSealed, key_of, later_rests, length, length-append, IsStoredAs, limits_of, List, Lives, map, max, nat_lt, nat_tests, neither, None, Ok, Opens, OpErr, Option, others_of, outcome_of, PassCut, Public, RanStatement, refl, Refusal, refusal, refusal_now, refused_late, Region, replicate, Result, RevState, RoomState, Seals, seals_join, seals_rests, ServesSilently, settle, settled, slice_get, Some, StoreState, subst, suc, sym, table_region, Tables, tabulate, two, Vault, Vec, Went, went_join, went_rests, Whole, whole_run, width, World, world_of, zero, ℕ, [], ◌%◌, ◌*◌, ◌++◌, ◌+◌, ◌-◌, ◌<◌, ◌^◌, ◌∙◌, ◌∷◌, ◌≡◌, ◌≤◌, ◌⊎◌}
 use Rattle.std.specs.Prelude.{sum_by}
 use Rattle.std.specs.List.{All}
 use Rattle.std.proofs.lemmas.Bool.{not-false}
@@ -316,9 +316,9 @@ module _ {R : Type 0} (state : R → RevState) (old : Engine R) (s s1 : StoreSta
         ∙ index_again new_table.heading empty (length-replicate {A = Option Row} (tree_blocks height) None)
         ∙ (λ i. created (sym high i) (sym slots_is i) (sym (leaves_new d of) i))
 
-    lies_new : IsTrue s.tells → (d : Draws) → AreDraws old d → Lies x (index_of new_table.heading (new_held d old.public.stash new_table.heading)) after
+    lies_new : IsTrue s.tells → (d : Draws) → AreDraws old d → IsStoredAs x (index_of new_table.heading (new_held d old.public.stash new_table.heading)) after
     lies_new tells d of =
-        subst (λ (st : State Row). Lies x st after) (sym (empty_is d of)) (creates.told (subst (λ (b : Bool). IsTrue b) (sym rests.tells) tells))
+        subst (λ (st : State Row). IsStoredAs x st after) (sym (empty_is d of)) (creates.told (subst (λ (b : Bool). IsTrue b) (sym rests.tells) tells))
 
     low_tree : (k : ℕ) (z : Index) → slice_get old.indexes.items k ≡ Some z → z.tree < g
     low_tree k z get =
@@ -344,7 +344,7 @@ module _ {R : Type 0} (state : R → RevState) (old : Engine R) (s s1 : StoreSta
         → HoldsTable Indexed old.public.pack more new_table (record { heading = new_table.heading; held = new_held d old.public.stash new_table.heading }) after
     holds_new tells d of = λ k z get same. elim (get_more old.indexes.items x z k get) [
       | inl was ↦ let less = low_tree k z was in let region = agrees.next in absurd (omega (arith, less, same, region))
-      | inr last ↦ subst (λ (i : Index). Lies i (index_of new_table.heading (new_held d old.public.stash new_table.heading)) after) (sym last.1) (lies_new tells d of)
+      | inr last ↦ subst (λ (i : Index). IsStoredAs i (index_of new_table.heading (new_held d old.public.stash new_table.heading)) after) (sym last.1) (lies_new tells d of)
     ]
 
     held_made : IsTrue s.tells → (d : Draws) → AreDraws old d → (tables : Tables) → AreHeld old.public.pack old.indexes.items old.public.tables tables (world_of state old s)
@@ -399,7 +399,7 @@ module _ {R : Type 0} (state : R → RevState) (old : Engine R) (s s1 : StoreSta
         stopped_left state (Create table columns capacity Indexed) old s v room t agrees free indexes draws both n part e stays (opened _) cut (script_is (Cut n)) count are_left may_left
         (ap (λ (p : DrawPlace). p.key) next) drawn_next above
 
-    -- want of memory: before the first make or behind it, or just before the second or behind that
+    -- want of memory: before the first make or after it, or just before the second or after that
     lacks : BeganBehind [] (make_script 1 tree) s1 t ⊎ BeganBehind (create_script 1 tree) (make_script 1 stash) s1 t
         → LacksMemory old.public (CreateStmt table columns capacity Indexed) (seen_to (Cut n)) s t ⊥
     lacks (inl first) = record {

@@ -26,7 +26,7 @@ use Rattle.ob_tables.proofs.TableLemmas.{AreNamed, beside_kept, named, stored_fo
 use Rattle.ob_tables.proofs.ToldLemmas.{early_held}
 
 -- ---- a list without the element at a place
--- where an element of it stood: before that place, or behind it
+-- where an element of it stood: before that place, or after it
 pub record Origin {A : Type 0} (xs : List A) (i j : ℕ) (y : A) : Type 0 where
   pub from : ℕ
   pub get : slice_get xs from ≡ Some y

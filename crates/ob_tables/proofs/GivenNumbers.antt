@@ -1,5 +1,5 @@
 -- The numbers that the places of a closing and its tables have once they are open.
-use Rattle.ob_tables.proofs.Words.{ap, arith, cases_eq, cases_lt, Closing, false, if◌then◌else◌, inl, inr, IsReopened, KeySet, length, Lie, List, Listed, nat_tests, refl, slice_get, Some, Start, subst, suc, sym, TagFits, take, World, zero, ℕ, [], ◌&&◌, ◌+◌, ◌-◌, ◌<◌, ◌==◌, ◌∙◌, ◌∷◌, ◌≡◌, ◌≢◌, ◌≤◌}
+use Rattle.ob_tables.proofs.Words.{ap, arith, cases_eq, cases_lt, Closing, false, if◌then◌else◌, inl, inr, IsReopened, KeySet, length, FalseRead, List, Listed, nat_tests, refl, slice_get, Some, Start, subst, suc, sym, TagFits, take, World, zero, ℕ, [], ◌&&◌, ◌+◌, ◌-◌, ◌<◌, ◌==◌, ◌∙◌, ◌∷◌, ◌≡◌, ◌≢◌, ◌≤◌}
 use Rattle.std.proofs.Common.{ltb}
 use Rattle.ob_base.specs.Accesses.{number_from}
 use Rattle.ob_seal.specs.Sealed.{tag_of}
@@ -117,7 +117,7 @@ given_closing closing (t ∷ ts) q x here below =
     ∙ given_closing closing ts q x here (λ i u is. below (suc i) u is)
 
 -- so the tag of one that fits there fits with the tables, too
-pub fits_listed : (closing : Closing) (keys : KeySet) (listed : List Listed) (lie : Lie) → lie.region ≡ closing.region
+pub fits_listed : (closing : Closing) (keys : KeySet) (listed : List Listed) (lie : FalseRead) → lie.region ≡ closing.region
     → ((i : ℕ) (t : Listed) → slice_get listed i ≡ Some t → t.table.region < closing.region)
     → TagFits keys (opened_start closing []) lie → TagFits keys (opened_start closing listed) lie
 fits_listed closing keys listed lie here below fits = record {
@@ -126,5 +126,5 @@ fits_listed closing keys listed lie here below fits = record {
       (sym (given_closing closing listed lie.region lie.place here below));
 }
 
-pub fits_as : (k l : KeySet) (s t : Start) (lie : Lie) → k ≡ l → s ≡ t → TagFits k s lie → TagFits l t lie
+pub fits_as : (k l : KeySet) (s t : Start) (lie : FalseRead) → k ≡ l → s ≡ t → TagFits k s lie → TagFits l t lie
 fits_as k l s t lie keys start fits = subst (λ (x : Start). TagFits l x lie) start (subst (λ (x : KeySet). TagFits x s lie) keys fits)

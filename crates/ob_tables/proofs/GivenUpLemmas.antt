@@ -39,7 +39,7 @@ none_more state old s new t agrees after from tables q least =
       | inr other ↦ let below = other_below state old s new t agrees after from tables q other in omega (arith, below, least, next)
     ])
 
--- so behind a statement that the store cut off
+-- so after a statement that the store cut off
 pub none_left : {R : Type 0} (state : R → RevState) (skeleton : Skeleton) (old : Engine R) (s : StoreState) (new : Engine R) (t : StoreState) → Agrees state old s
     → RanStatement state skeleton (Ok (Refused Refusal.StoreFault)) old s new t → HasNoneFrom old.public.next_region (state new.vault.revs)
 none_left state skeleton old s new t agrees ran =

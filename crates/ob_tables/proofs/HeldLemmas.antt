@@ -124,7 +124,7 @@ pub record Beside (pack : ℕ) (name : List ℕ) (t : Table) (tables : Tables) (
   pub heading : table.heading ≡ t.heading
   pub represents : Represents pack (flat_of t) table.held.slots w
 
--- what is found behind a table of another name is found
+-- what is found after a table of another name is found
 behind : (pack : ℕ) (indexes : List Index) (name : List ℕ) (t : Table) (x : Stored Held) (xs : Tables) (w : World) → (b : Bool) → bytes_eq x.heading.name name ≡ b → b ≡ false
     → Stood pack indexes name t xs w → Stood pack indexes name t (x ∷ xs) w
 behind pack indexes name t x xs w b is miss stood = record {

@@ -210,7 +210,7 @@ module _ {R : Type 0} (state : R → RevState) (stmt : Stmt) (old : Engine R) (s
   may_by (RowsStmt q) is = shown_columns q is
   may_by other is = tt
 
-  -- behind its access
+  -- after its access
   module _ (draw : ℕ) (keyed : Keyed) (left : List Index) (room : RoomState) (before after : World) (done : IsDone stmt k draw keyed old.indexes.items left old.room room before after) where
     before_is : index ≡ done.before
     before_is = let got = done.get in let there = accessed.is.get in cc (got, there)

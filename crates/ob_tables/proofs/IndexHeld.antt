@@ -1,5 +1,5 @@
--- The tables in place beside those of an engine, behind an access of one of its indexes.
-use Rattle.ob_tables.proofs.Words.{ap, AreHeld, AreTables, arith, Bool, bytes_eq, bytes_eq-Decides, changed_at, cond, false, flat_of, Heading, Held, HoldsTable, if◌then◌else◌, Index, index_of, Indexed, inl, Lasts, Lies, List, Option, others_of, refl, represents_lasts, slice_get, slice_set, Some, Stored, stored_at, subst, suc, sym, Tables, true, two, World, zero, ℕ, [], ◌∙◌, ◌∷◌, ◌≡◌}
+-- The tables in place beside those of an engine, after an access of one of its indexes.
+use Rattle.ob_tables.proofs.Words.{ap, AreHeld, AreTables, arith, Bool, bytes_eq, bytes_eq-Decides, changed_at, cond, false, flat_of, Heading, Held, HoldsTable, if◌then◌else◌, Index, index_of, Indexed, inl, Lasts, IsStoredAs, List, Option, others_of, refl, represents_lasts, slice_get, slice_set, Some, Stored, stored_at, subst, suc, sym, Tables, true, two, World, zero, ℕ, [], ◌∙◌, ◌∷◌, ◌≡◌}
 use Rattle.ob_base.specs.declared.schema.Shape.{Shape}
 use Rattle.ob_base.specs.declared.schema.Shape.TheVariants.{Flat as FlatShape}
 use Rattle.ob_base.specs.declared.schema.Table.{Table}
@@ -84,7 +84,7 @@ module _ (some : ℕ → Type 0) (pack : ℕ) (indexes more : List Index) (a b :
             (λ y found. new y (ap (λ (c : Bool). cond c (Some x) (stored_at name xs)) (ap (λ (h : Heading). bytes_eq h.name name) held.0 ∙ miss) ∙ found)),
       ))
 
--- ---- behind an access
+-- ---- after an access
 module _ (pack k : ℕ) (ts : List Table) (closing : Option ℕ) (indexes : List Index) (x y : Index) (old new : World) (lasts : Lasts (two x.tree x.stash) old new)
     (tables : AreTables ts (others_of closing indexes) indexes pack old) (get : slice_get indexes k ≡ Some x) (trees : y.tree ≡ x.tree) where
   -- no other table has the index that was accessed
@@ -98,7 +98,7 @@ module _ (pack k : ℕ) (ts : List Table) (closing : Option ℕ) (indexes : List
 
   pub held_accessed : (name : List ℕ) (after : Held) (held_tables : Tables) (i : ℕ) (t : Table) → AreNamed ts → AreHeld pack indexes ts held_tables old
       → slice_get ts i ≡ Some t → t.heading.name ≡ name → t.heading.shape ≡ Indexed → t.region ≡ x.tree
-      → ((h : Heading) → h ≡ t.heading → Lies y (index_of h after) new)
+      → ((h : Heading) → h ≡ t.heading → IsStoredAs y (index_of h after) new)
       → AreHeld pack (slice_set indexes k y) ts (changed_at name (λ held. after) held_tables) new
   held_accessed name after held_tables i t names held at is indexed region lies =
       let here = x_in pack k ts closing indexes x old tables get in
@@ -109,6 +109,6 @@ module _ (pack k : ℕ) (ts : List Table) (closing : Option ℕ) (indexes : List
       (λ z found heading.
       subst (λ (shape : Shape). HoldsTable shape pack (slice_set indexes k y) t (record { heading = z.heading; held = after }) new) (sym indexed)
       (λ l w got tree. elim (set_at indexes k y l w got) [
-        | this there same ↦ subst (λ (j : Index). Lies j (index_of z.heading after) new) (sym same) (lies z.heading heading)
+        | this there same ↦ subst (λ (j : Index). IsStoredAs j (index_of z.heading after) new) (sym same) (lies z.heading heading)
         | that off was ↦ absurd (off (tables.one l k w x was get (tree ∙ region)))
       ]))

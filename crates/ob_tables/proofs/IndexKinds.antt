@@ -92,6 +92,6 @@ module _ (p : Public) (i : ℕ) (t : Table) (name : List ℕ) (names : AreNamed 
   drew_one (RowsStmt q) is = ap (λ (b : Bool). if b then 1 else 0) (access_by (RowsStmt q) is)
   drew_one other is = absurd (cc is)
 
--- the place of the draws behind it
+-- the place of the draws after it
 pub next_place : (place drawn n : ℕ) → place ≡ drawn % 2 ^ 67 → (place + n) % 2 ^ 67 ≡ (drawn + n) % 2 ^ 67
 next_place place drawn n is = omega (arith, is)

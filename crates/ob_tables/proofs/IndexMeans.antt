@@ -1,5 +1,5 @@
 -- What a statement on an index means, beside its access in the engine.
-use Rattle.ob_tables.proofs.Words.{Access, access_script, Agrees, ap, append_assoc, AreDraws, AreHeld, Bool, changed_at, count_of, draw_at, DrawPlace, Draws, Engine, Global, Got, got_in, got_outcome, Heading, headings, headings_of, HoldsTable, Index, index_of, IsAccessed, IsDone, IsHonest, IsTrue, Keyed, length, Lie, Lies, List, MatchResult, None, none, Ok, OramErr, Outcome, ReadsTrue, refusal_now, Result, RevState, RoomState, seen, seen_cut, seen_whole, settle, skeleton, slice_set, Stmt, StoreState, subst, sym, Tables, Vault, Vec, went_rests, World, world_of, ℕ, [], ◌++◌, ◌-◌, ◌∙◌, ◌≡◌}
+use Rattle.ob_tables.proofs.Words.{Access, access_script, Agrees, ap, append_assoc, AreDraws, AreHeld, Bool, changed_at, count_of, draw_at, DrawPlace, Draws, Engine, Global, Got, got_in, got_outcome, Heading, headings, headings_of, HoldsTable, Index, index_of, IsAccessed, IsDone, IsHonest, IsTrue, Keyed, length, FalseRead, IsStoredAs, List, MatchResult, None, none, Ok, OramErr, Outcome, ReadsTrue, refusal_now, Result, RevState, RoomState, seen, seen_cut, seen_whole, settle, skeleton, slice_set, Stmt, StoreState, subst, sym, Tables, Vault, Vec, went_rests, World, world_of, ℕ, [], ◌++◌, ◌-◌, ◌∙◌, ◌≡◌}
 use Rattle.ob_base.specs.declared.schema.Shape.{Shape}
 use Rattle.ob_base.specs.declared.schema.Table.{Table}
 use Rattle.ob_store.specs.Calls.{ChangesNothing}
@@ -53,12 +53,12 @@ module _ {R : Type 0} (state : R → RevState) (stmt : Stmt) (old : Engine R) (s
         stood_at old.public.pack old.indexes.items accessed.name old.public.tables tables accessed.place table (world_of state old s) agrees.tables.names held.held
         accessed.is.here.get accessed.is.here.named
 
-    lies_old : Lies x (index_of stood.table.heading stood.table.held) (world_of state old s)
+    lies_old : IsStoredAs x (index_of stood.table.heading stood.table.held) (world_of state old s)
     lies_old =
         let of = of_x state stmt old s s1 v room t k draw keyed indexes draws agrees rests now accessed done in
         (subst (λ (shape : Shape). HoldsTable shape old.public.pack old.indexes.items table stood.table (world_of state old s)) of.indexed stood.holds) k x done.get of.tree
 
-    pub lies_before : Lies x (index_of stood.table.heading stood.table.held) before
+    pub lies_before : IsStoredAs x (index_of stood.table.heading stood.table.held) before
     lies_before = record {
       lies = lies_kept none (world_of state old s) before (went_rests _ s s1 rests none agrees.ready).lasts x (λ off. off) (λ off. off) (index_of stood.table.heading stood.table.held) lies_old.lies;
       stands = lies_old.stands;
@@ -106,7 +106,7 @@ module _ {R : Type 0} (state : R → RevState) (stmt : Stmt) (old : Engine R) (s
         let set_held : AreHeld old.public.pack (slice_set old.indexes.items k y) old.public.tables (changed_at accessed.name (λ held. told.after) tables) after =
         held_accessed old.public.pack k old.public.tables old.closing old.indexes.items x y (world_of state old s) after went.lasts agrees.tables done.get (ap (λ (i : Index). i.tree) kept.same)
         accessed.name told.after tables accessed.place table agrees.tables.names reads.held.held accessed.is.here.get accessed.is.here.named is_of.indexed (sym is_of.tree)
-        (λ h same. subst (λ (g : Heading). Lies y (index_of g told.after) after) (stood_is.heading ∙ sym same) told.lies) in
+        (λ h same. subst (λ (g : Heading). IsStoredAs y (index_of g told.after) after) (stood_is.heading ∙ sym same) told.lies) in
         subst (λ (is : List Index). AreHeld old.public.pack is old.public.tables (settle d old.public (count_of old s) tables stmt) after) (sym done.set)
         (subst (λ (ts : Tables). AreHeld old.public.pack (slice_set old.indexes.items k y) old.public.tables ts after) (sym told.settled)
         (subst (λ (name : List ℕ). AreHeld old.public.pack (slice_set old.indexes.items k y) old.public.tables (changed_at name (λ held. told.after) tables) after) (sym name_is) set_held))
@@ -125,7 +125,7 @@ module _ {R : Type 0} (state : R → RevState) (stmt : Stmt) (old : Engine R) (s
       seen_is ∙ ap (λ (m : ℕ). seen_cut old.public.stash keyed.leaf m) count ∙ sym ((meant tables held d of).cut failed (length t.asked - length s.asked))
 
   -- its reads are a first part of the script of the meaning
-  pub begun_access : (part rest : List Access) → part ++ rest ≡ access_script x keyed.leaf → t.asked ≡ s.asked ++ part → (tables : Tables) (d : Draws) → AreDraws old d → ReadsTrue state old s s tables → (lie : Lie)
+  pub begun_access : (part rest : List Access) → part ++ rest ≡ access_script x keyed.leaf → t.asked ≡ s.asked ++ part → (tables : Tables) (d : Draws) → AreDraws old d → ReadsTrue state old s s tables → (lie : FalseRead)
       → ReadsIn lie t.asked → ReadsIn lie (s.asked ++ meant_script d old.public (count_of old s) tables stmt)
   begun_access part rest split asked tables d of reads lie read =
       reads_on lie t.asked rest (s.asked ++ meant_script d old.public (count_of old s) tables stmt)

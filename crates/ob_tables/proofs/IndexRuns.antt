@@ -1,5 +1,5 @@
 -- What an access of an index does, whatever the store answers.
-use Rattle.ob_tables.proofs.Words.{Access, access_script, Agrees, answer_of, ap, AreDraws, AreTables, arith, Bool, Calm, count_of, Cut, draw_at, draw_seed_of, drawn_by, DrawPlace, Draws, draws_taken, End, Engine, Err, false, free_after, Global, Got, got_outcome, held_if, Index, index_kept, inl, inr, is_access, is_fault, is_stop, IsAccessed, IsDone, IsFree, IsIndex, IsIndexOfTable, key_of, Keyed, left_region, length, List, nat_lt, None, none, Ok, Opens, OpErr, Option, OramErr, others_of, Outcome, RanStatement, refl, refusal_now, Result, RevState, RoomState, run_script, RunCause, RunStop, Seen, seen_cut, seen_whole, skeleton, slice_get, slice_index_or, slice_set, Some, Stmt, stop_of, stored_region, StoreState, subst, sym, true, two, Vault, Vec, Went, went_join, went_rests, Whole, World, world_of, ℕ, [], ◌%◌, ◌++◌, ◌+◌, ◌-◌, ◌^◌, ◌∙◌, ◌≡◌, ◌≤◌, ◌⊎◌}
+use Rattle.ob_tables.proofs.Words.{Access, access_script, Agrees, answer_of, ap, AreDraws, AreTables, arith, Bool, Untampered, count_of, Cut, draw_at, draw_seed_of, drawn_by, DrawPlace, Draws, draws_taken, End, Engine, Err, false, free_after, Global, Got, got_outcome, held_if, Index, index_kept, inl, inr, is_access, is_fault, is_stop, IsAccessed, IsDone, IsFree, IsIndex, IsIndexOfTable, key_of, Keyed, left_region, length, List, nat_lt, None, none, Ok, Opens, OpErr, Option, OramErr, others_of, Outcome, RanStatement, refl, refusal_now, Result, RevState, RoomState, run_script, RunCause, RunStop, Seen, seen_cut, seen_whole, skeleton, slice_get, slice_index_or, slice_set, Some, Stmt, stop_of, stored_region, StoreState, subst, sym, true, two, Vault, Vec, Went, went_join, went_rests, Whole, World, world_of, ℕ, [], ◌%◌, ◌++◌, ◌+◌, ◌-◌, ◌^◌, ◌∙◌, ◌≡◌, ◌≤◌, ◌⊎◌}
 use Rattle.std.proofs.Common.{OnOk}
 use Rattle.ob_base.specs.declared.schema.Table.{Table}
 use Rattle.ob_base.specs.Indexes.{leaf_of_draw, rows_open}
@@ -47,7 +47,7 @@ short_cause OramErrs.Failed a b cause = cause
 short_cause other a b cause = cause
 
 -- of a store that was only given room before
-cause_after : (stop : RunStop) (a b c : World) → b.store.faults ≡ a.store.faults → (Calm a → Calm b) → RunCause (Err stop) b c → RunCause (Err stop) a c
+cause_after : (stop : RunStop) (a b c : World) → b.store.faults ≡ a.store.faults → (Untampered a → Untampered b) → RunCause (Err stop) b c → RunCause (Err stop) a c
 cause_after (Stops.Tampered q x) a b c faults calm cause = (cause.0 ∙ faults, cause.1, λ was. cause.2 (calm was))
 cause_after Stops.StoreFault a b c faults calm cause = (let rise = cause.0 in omega (arith, rise, faults), λ was. cause.1 (calm was))
 cause_after Stops.KeeperFault a b c faults calm cause = absurd cause
@@ -231,7 +231,7 @@ module _ {R : Type 0} (state : R → RevState) (stmt : Stmt) (old : Engine R) (s
           indexed = λ stops. absurd (cc stops);
         }
 
-    -- its emitter gave up behind it
+    -- its emitter gave up after it
     pub ran_as_cut : RanAs old.public (count_of old s) stmt (seen_cut old.public.stash keyed.leaf (length t.asked - length s1.asked)) s1 t
     ran_as_cut = keyed_cut old.public (count_of old s) stmt x y keyed.leaf got before after on asked_ok
 

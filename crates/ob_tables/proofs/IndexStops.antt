@@ -1,5 +1,5 @@
 -- A statement on an index that was stopped, and what that means.
-use Rattle.ob_tables.proofs.Words.{Agrees, ap, AreDraws, arith, Bool, Calm, count_of, draw_at, DrawPlace, Draws, Engine, Err, Global, Got, Heading, height_of, held_if, Index, IsAccessed, IsDone, IsHonest, IsTrue, Keyed, length, MatchResult, nat_lt, nat_tests, None, none, Option, option_map_or, OramErr, refl, refusal_now, Result, RevState, RoomState, RunCause, seen_cut, Some, Stmt, stop_of, StoreState, subst, sym, Tables, true, Vault, Vec, went_rests, World, world_of, ℕ, ◌+◌, ◌-◌, ◌<◌, ◌∙◌, ◌≡◌, ◌≤◌}
+use Rattle.ob_tables.proofs.Words.{Agrees, ap, AreDraws, arith, Bool, Untampered, count_of, draw_at, DrawPlace, Draws, Engine, Err, Global, Got, Heading, height_of, held_if, Index, IsAccessed, IsDone, IsHonest, IsTrue, Keyed, length, MatchResult, nat_lt, nat_tests, None, none, Option, option_map_or, OramErr, refl, refusal_now, Result, RevState, RoomState, RunCause, seen_cut, Some, Stmt, stop_of, StoreState, subst, sym, Tables, true, Vault, Vec, went_rests, World, world_of, ℕ, ◌+◌, ◌-◌, ◌<◌, ◌∙◌, ◌≡◌, ◌≤◌}
 use Rattle.ob_base.specs.Indexes.{path_blocks}
 use Rattle.ob_base.proofs.IndexLemmas.{height_same}
 use Rattle.ob_store.specs.Calls.{ChangesNothing}
@@ -64,13 +64,13 @@ module _ {R : Type 0} (state : R → RevState) (stmt : Stmt) (old : Engine R) (s
         subst (λ (r : Result Got OramErr). MatchResult r (λ g. ToldKeyed d old.public (count_of old s) tables stmt stood_is.table done.after g after) (λ f. StopsKeyed d old.public (count_of old s) tables stmt f))
         stops ((meant state stmt old s s1 v room t k draw keyed indexes draws agrees rests now accessed done drew tables held d of).told honest)
 
-    honest_until : (tables : Tables) → ReadsTrueUntil state old s new t tables → (Calm before → Calm after) → IsHonest before after
+    honest_until : (tables : Tables) → ReadsTrueUntil state old s new t tables → (Untampered before → Untampered after) → IsHonest before after
     honest_until tables reads calm = record {
       tells = subst (λ (b : Bool). IsTrue b) (sym rests.tells) reads.tells;
       nolie = unfit_none after (calm ((went_rests _ s s1 rests none agrees.ready).calm reads.calm)) reads.unfit;
     }
 
-    -- a full stash is the meaning's, and all was read behind which it is
+    -- a full stash is the meaning's, and all was read after which it is
     stops_full : (stash_full : e ≡ OramErrs.StashFull) → (tables : Tables) (d : Draws) → AreDraws old d → ReadsTrueUntil state old s new t tables
         → StopsFull d old.public (count_of old s) tables stmt (length t.asked - length s.asked) Stops.StashFull
     stops_full stash_full tables d of reads =
@@ -83,7 +83,7 @@ module _ {R : Type 0} (state : R → RevState) (stmt : Stmt) (old : Engine R) (s
         let reads_all : length t.asked - length s.asked ≡ access_reads old.public tables stmt = omega (arith, all, same, number) in
         record { full = λ is. full; reads = λ is. reads_all; bound = λ is. omega (arith, reads_all) }
 
-    -- any stop is behind the reads of the meaning's access at most, where that one's stash is full
+    -- any stop is after the reads of the meaning's access at most, where that one's stash is full
     bound_by : (f : OramErr) → e ≡ f → (tables : Tables) (d : Draws) → AreDraws old d → ReadsTrueUntil state old s new t tables
         → StopsFull d old.public (count_of old s) tables stmt (length t.asked - length s.asked) (stop_of f)
     bound_by OramErrs.Failed is tables d of reads =

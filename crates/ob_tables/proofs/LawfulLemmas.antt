@@ -1,5 +1,5 @@
 -- What is seen of a statement is lawful, whatever the store does.
-use Rattle.ob_tables.proofs.Words.{Access, AfterCount, ap, arith, behind_run, blocks_for, Bool, by_shape, Changed, columns_of, copy_part, count_part, Created, Cut, Deleted, drop_script, Dropped, End, Err, false, Groups, height_of, if◌then◌else◌, Indexed, inl, insert_part, is_access, IsSome, Joined, Lawful, length, length-append, List, make_at, None, not, Ok, Option, option_map_or, Outcome, Public, refl, Refusal, refusal_now, Refused, refused_end, Result, rewrite_part, run_script, RunStop, Seen, selects_rows, Skeleton, skeleton, Some, Static, Stmt, Stored, stored_at, stored_regions, subst, sym, take, true, Whole, whole_run, width, with_table, ℕ, [], ◌&&◌, ◌*◌, ◌++◌, ◌+◌, ◌-◌, ◌∙◌, ◌≡◌, ◌≤◌}
+use Rattle.ob_tables.proofs.Words.{Access, AfterCount, ap, arith, behind_run, blocks_for, Bool, by_shape, Changed, columns_of, copy_part, count_part, Created, Cut, Deleted, drop_script, Dropped, End, Err, false, Groups, height_of, if◌then◌else◌, Indexed, inl, insert_part, is_access, IsSome, Batched, Lawful, length, length-append, List, make_at, None, not, Ok, Option, option_map_or, Outcome, Public, refl, Refusal, refusal_now, Refused, refused_end, Result, rewrite_part, run_script, RunStop, Seen, selects_rows, Skeleton, skeleton, Some, Static, Stmt, Stored, stored_at, stored_regions, subst, sym, take, true, Whole, whole_run, width, with_table, ℕ, [], ◌&&◌, ◌*◌, ◌++◌, ◌+◌, ◌-◌, ◌∙◌, ◌≡◌, ◌≤◌}
 use Rattle.std.proofs.lemmas.List.{length-take}
 use Rattle.ob_base.specs.declared.refusal.Refusal.TheVariants.{Syntax, NoTable, NameTaken, NoColumn, WrongType, ValueRange, Limit, KeyRule, JoinKey, Duplicate, Full, TooManyGroups, NotConsecutive, Overflow, StoreFault, PadPassed, KeyRange, NeedsKey}
 use Rattle.ob_base.specs.declared.schema.Shape.{Shape}
@@ -7,7 +7,7 @@ use Rattle.ob_base.specs.declared.schema.Shape.TheVariants.{Flat}
 use Rattle.ob_base.specs.declared.skeleton.Skeleton.TheVariants.{Create, Insert, Update, Delete, Drop as DropTable, Rows as RowsOf}
 use Rattle.ob_base.specs.Accesses.{discard_at}
 use Rattle.ob_script.specs.Parts.{create_part, index_part}
-use Rattle.ob_script.specs.Script.{Behind, behind_change, blocks_of, dropped_script, extent_of, index_part_of, mutation_script, rows_width, save_part, shape_script, whole_by, whole_script}
+use Rattle.ob_script.specs.Script.{FollowUp, behind_change, blocks_of, dropped_script, extent_of, index_part_of, mutation_script, rows_width, save_part, shape_script, whole_by, whole_script}
 use Rattle.ob_mean.specs.Lawful.{is_counted, EndsUncounted, CutUpTo, HoldsLeaf}
 use Rattle.ob_mean.specs.Verdict.{ended}
 use Rattle.ob_verdict.specs.declared.outcome.Outcome.TheVariants.{Inserted, Rows}
@@ -25,11 +25,11 @@ ends_cut (Err stop) k n is = cc is
 ends_cut other k n is = absurd (cc is)
 
 -- none was served with a statement before it
-refused_alone : (r : Refusal) (n : ℕ) → Joined ≡ refused_end r n → ⊥
+refused_alone : (r : Refusal) (n : ℕ) → Batched ≡ refused_end r n → ⊥
 refused_alone StoreFault n is = cc is
 refused_alone other n is = cc is
 
-ends_alone : (result : Result Outcome RunStop) (n : ℕ) → Joined ≡ result_end result n → ⊥
+ends_alone : (result : Result Outcome RunStop) (n : ℕ) → Batched ≡ result_end result n → ⊥
 ends_alone (Ok (Refused r)) n is = refused_alone r n is
 ends_alone other n is = cc is
 
@@ -37,7 +37,7 @@ ends_alone other n is = cc is
 take_short : (n : ℕ) (xs : List Access) → length (take n xs) ≤ length xs
 take_short n xs = let is = length-take n xs in omega (arith, is)
 
--- ---- nor does the engine: what follows a change is no longer where a closing is written behind it
+-- ---- nor does the engine: what follows a change is no longer where a closing is written after it
 -- a script is no longer than itself
 itself : (xs : List Access) → length xs ≤ length xs
 itself xs = omega (arith)
@@ -56,7 +56,7 @@ insert_less t g blocks size a b less =
 rewrite_less : (t g blocks size : ℕ) (a b : List Access) → length a ≤ length b → length (rewrite_part t g blocks size a) ≤ length (rewrite_part t g blocks size b)
 rewrite_less t g blocks size a b less = behind_less (make_at g blocks size) _ _ (behind_less (copy_part t g blocks) a b less)
 
-module _ (p : Public) (few more : Behind) (less : (left : Option ℕ) → length (few left) ≤ length (more left)) where
+module _ (p : Public) (few more : FollowUp) (less : (left : Option ℕ) → length (few left) ≤ length (more left)) where
   found_less : (f h : Stored ℕ → List Access) → ((t : Stored ℕ) → length (f t) ≤ length (h t)) → (o : Option (Stored ℕ)) → length (option_map_or f o []) ≤ length (option_map_or h o [])
   found_less f h each None = itself []
   found_less f h each (Some t) = each t
@@ -117,11 +117,11 @@ pub leaf_none : (p : Public) (stmt : Stmt) (leaf : Option ℕ) (end : End) → i
 leaf_none p stmt leaf end unkeyed none = subst (λ (l : Option ℕ). HoldsLeaf p (skeleton stmt) l end) (sym none) (λ keyed. absurd (cc (keyed, unkeyed)))
 
 -- nothing is held
-held_nothing : (p : Public) (stmt : Stmt) (end : End) → is_counted p stmt ≡ false → (end ≡ AfterCount → ⊥) → (end ≡ Joined → ⊥) → EndsUncounted p stmt end
+held_nothing : (p : Public) (stmt : Stmt) (end : End) → is_counted p stmt ≡ false → (end ≡ AfterCount → ⊥) → (end ≡ Batched → ⊥) → EndsUncounted p stmt end
 held_nothing p stmt Static uncounted after alone = tt
 held_nothing p stmt Whole uncounted after alone = inl uncounted
 held_nothing p stmt AfterCount uncounted after alone = after refl
-held_nothing p stmt Joined uncounted after alone = absurd (alone refl)
+held_nothing p stmt Batched uncounted after alone = absurd (alone refl)
 held_nothing p stmt (Cut n) uncounted after alone = tt
 
 plain : (p : Public) (m : ℕ) (stmt : Stmt) (result : Result Outcome RunStop) (end : End) (before after : List Access) → selects_rows stmt ≡ false → is_access p (skeleton stmt) ≡ false → (end ≡ AfterCount → ⊥)

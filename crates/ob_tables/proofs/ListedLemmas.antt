@@ -62,7 +62,7 @@ module _ (pack : ℕ) (some : 1 ≤ pack) (w : World) (ready : Ready w) (t : Tab
     run = λ round off. absurd (off refl);
   }
 
-  -- each of its places has the number behind that of the one before it
+  -- each of its places has the number after that of the one before it
   pub table_numbers : (x : ℕ) → x < blocks_for pack t.heading.capacity → w.vault.revs.number t.region x ≡ w.vault.revs.number t.region 0 + x
   table_numbers x below =
       numbers_run t.region shape w ready written.round refl turned (written.flat.written 0 table_blocks) x below

@@ -1,5 +1,5 @@
 -- An engine goes on from what a run saved: the closing is read under keys that know no other salt than its own.
-use Rattle.ob_tables.proofs.Words.{ap, append-nil, arith, Began, Bool, Closing, draw_seed_of, DrawPlace, Engine, Err, false, if◌then◌else◌, inl, inr, InUse, IsBounded, IsFree, IsHonest, IsMarked, IsTrue, KeptRegion, key_of, KeySet, length, List, Listed, map, Mark, nat_tests, None, Ok, opened_public, Option, Public, Ready, refl, ReopensTables, Rests, Result, RevState, RoomState, Some, start_of, StoreState, subst, sym, Tables, true, Vault, World, ℕ, [], ◌*◌, ◌++◌, ◌+◌, ◌-◌, ◌==◌, ◌∙◌, ◌∷◌, ◌≡◌, ◌≢◌, ◌≤◌, ◌⊎◌}
+use Rattle.ob_tables.proofs.Words.{ap, append-nil, arith, Began, Bool, Closing, draw_seed_of, DrawPlace, Engine, Err, false, if◌then◌else◌, inl, inr, InUse, IsBounded, IsFree, IsHonest, IsMarked, IsTrue, KeptRegion, key_of, KeySet, length, List, Listed, map, Mark, nat_tests, None, Ok, opened_public, Option, Public, Ready, refl, ReopensTables, IsAtRest, Result, RevState, RoomState, Some, start_of, StoreState, subst, sym, Tables, true, Vault, World, ℕ, [], ◌*◌, ◌++◌, ◌+◌, ◌-◌, ◌==◌, ◌∙◌, ◌∷◌, ◌≡◌, ◌≢◌, ◌≤◌, ◌⊎◌}
 use Rattle.ob_base.specs.declared.config.Config.{Config}
 use Rattle.ob_reopen.specs.declared.mark.Mark.TheVariants.{Fresh, Closed, Begun, Saved}
 use Rattle.ob_seal.specs.KeySet.{AreAlike, pair_in, pair_of}
@@ -183,9 +183,9 @@ module _ {R : Type 0} (state : R → RevState) (config : Config) (secret salt : 
                   opens_all state config keys closing marked pack_is is_config s s1 fresh honest empty bounded room from_first ready_first started refl none v2 s2 listed reads_first value t e reopens
                   public_is from_is unindexed draws_are alive free high_is rows_is settled
 
-              rests_here : IsTrue s.tells → t.lie ≡ None → (tables : Tables) → RestsBy secret closed closing s.kept tables → Rests keys closing s.kept tables
+              rests_here : IsTrue s.tells → t.lie ≡ None → (tables : Tables) → RestsBy secret closed closing s.kept tables → IsAtRest keys closing s.kept tables
               rests_here tells nolie tables rests =
-                  subst (λ (l : List Listed). Rests (reopening_keys secret salt closed closing l) closing s.kept tables) (sym (same_list tells (sym reopens.lie ∙ nolie) tables rests))
+                  subst (λ (l : List Listed). IsAtRest (reopening_keys secret salt closed closing l) closing s.kept tables) (sym (same_list tells (sym reopens.lie ∙ nolie) tables rests))
                   (rests_under secret salt closed closing s.kept tables rests)
 
               pub saved_open : e.replaced ≡ None → OpensSaved state config secret salt closed closing (Ok e) s t

@@ -1,5 +1,5 @@
 -- An engine is opened: what is asked, how it may end, and which tables it has.
-use Rattle.ob_tables.proofs.Words.{AcceptsClosings, Access, Agrees, ap, append-nil, AreDraws, AreHeld, AreKept, AreTables, arith, Began, Bool, Calm, cases_eq, cases_lt, Closing, Did, draw_seed_of, DrawPlace, Engine, Err, false, Index, inl, inr, InUse, IsBeside, IsBounded, IsCatalogue, IsFree, IsHonest, IsMarked, IsReopened, IsTable, IsTrue, KeptRegion, key_of, KeySet, length, length-append, length-map, Lie, List, Listed, makes, map, Mark, max, None, Ok, opened_public, Option, option_map, others_of, Public, Ready, refl, ReopensTables, replicate, Rests, RevState, RoomState, Round, slice_get, Some, Start, start_of, StoreState, subst, suc, sym, Tables, TagFits, true, Vault, World, world_of, zero, ℕ, [], ◌*◌, ◌++◌, ◌+◌, ◌-◌, ◌<◌, ◌∙◌, ◌∷◌, ◌≡◌, ◌≢◌, ◌≤◌, ◌⊎◌}
+use Rattle.ob_tables.proofs.Words.{AcceptsClosings, Access, Agrees, ap, append-nil, AreDraws, AreHeld, AreKept, AreTables, arith, Began, Bool, Untampered, cases_eq, cases_lt, Closing, Did, draw_seed_of, DrawPlace, Engine, Err, false, Index, inl, inr, InUse, IsBeside, IsBounded, IsCatalogue, IsFree, IsHonest, IsMarked, IsReopened, IsTable, IsTrue, KeptRegion, key_of, KeySet, length, length-append, length-map, FalseRead, List, Listed, makes, map, Mark, max, None, Ok, opened_public, Option, option_map, others_of, Public, Ready, refl, ReopensTables, replicate, IsAtRest, RevState, RoomState, Round, slice_get, Some, Start, start_of, StoreState, subst, suc, sym, Tables, TagFits, true, Vault, World, world_of, zero, ℕ, [], ◌*◌, ◌++◌, ◌+◌, ◌-◌, ◌<◌, ◌∙◌, ◌∷◌, ◌≡◌, ◌≢◌, ◌≤◌, ◌⊎◌}
 use Rattle.ob_tables.proofs.TableLemmas.{no_entry, no_stash}
 use Rattle.std.proofs.lemmas.List.{length-replicate}
 use Rattle.std.proofs.lemmas.Option.{slice_get-map}
@@ -46,19 +46,19 @@ cause_opening closing (Tampered q p) a b s same cause there = (cause.0 ∙ same,
 cause_opening closing NoMemory a b s same cause there = cause.0 ∙ same
 
 -- a changed block whose tag doesn't fit ended it
-record EndsAtLie (e : OpenErr) (lie : Lie) (asked : List Access) : Type 0 where
+record EndsAtLie (e : OpenErr) (lie : FalseRead) (asked : List Access) : Type 0 where
   is : e ≡ Tampered lie.region lie.place
   last : asked ≡ lie.before ++ Read lie.region lie.place ∷ []
 
-cut_by : (e : OpenErr) (a b : World) → OpenCause e a b → Calm a → (lie : Lie) → b.store.lie ≡ Some lie → (TagFits b.vault.keys b.vault.start lie → ⊥) → EndsAtLie e lie b.store.asked
+cut_by : (e : OpenErr) (a b : World) → OpenCause e a b → Untampered a → (lie : FalseRead) → b.store.lie ≡ Some lie → (TagFits b.vault.keys b.vault.start lie → ⊥) → EndsAtLie e lie b.store.asked
 cut_by Failed a b cause calm lie told unfit = absurd (unfit ((cause.1 calm).calm lie told))
 cut_by (Tampered q p) a b cause calm lie told unfit = elim (cause.2 calm) [
   | inl is ↦ absurd (unfit (is.calm lie told))
   | inr ends ↦
       let same : ends.lie ≡ lie = cc (ends.told, told) in
       record {
-        is = (λ i. Tampered (sym ends.at_region i) (sym ends.at_place i)) ∙ ap (λ (l : Lie). Tampered l.region l.place) same;
-        last = ends.asked ∙ ap (λ (l : Lie). l.before ++ Read l.region l.place ∷ []) same;
+        is = (λ i. Tampered (sym ends.at_region i) (sym ends.at_place i)) ∙ ap (λ (l : FalseRead). Tampered l.region l.place) same;
+        last = ends.asked ∙ ap (λ (l : FalseRead). l.before ++ Read l.region l.place ∷ []) same;
       }
 ]
 cut_by NoMemory a b cause calm lie told unfit = absurd (unfit ((cause.1 calm).calm lie told))
@@ -233,7 +233,7 @@ module _ {R : Type 0} (state : R → RevState) (config : Config) (keys : KeySet)
       spare = let some = marked.blocks_least in omega (arith, spare, some);
     }
 
-    calm_first : Calm first
+    calm_first : Untampered first
     calm_first = record {
       calm = λ lie told. absurd (cc (honest, room.lie, told));
       within = λ lie told. absurd (cc (honest, room.lie, told));
@@ -260,7 +260,7 @@ module _ {R : Type 0} (state : R → RevState) (config : Config) (keys : KeySet)
             let place : p ≡ tampered.place = cc same in
             let below = tampered.below in (cc same, omega (arith, place, below))
 
-        cut_at : (lie : Lie) → s2.lie ≡ Some lie → (TagFits keys (opened_start closing []) lie → ⊥) → IsNumbered closing mid ⊎ (s2.lie ≡ s1.lie) → EndsAtLie e lie s2.asked
+        cut_at : (lie : FalseRead) → s2.lie ≡ Some lie → (TagFits keys (opened_start closing []) lie → ⊥) → IsNumbered closing mid ⊎ (s2.lie ≡ s1.lie) → EndsAtLie e lie s2.asked
         cut_at lie told unfit (inl numbered) =
             cut_by e first mid reads.opens.err.cause calm_first lie told
             (λ fits. unfit (fits_as v1.keys keys (start_of v1) (opened_start closing []) lie (keys_mid reads.opens.err.stays) (start_mid reads.opens.err.stays numbered) fits))
@@ -291,14 +291,14 @@ module _ {R : Type 0} (state : R → RevState) (config : Config) (keys : KeySet)
             let count = reads.catalogue.count in
             omega (arith, spare, used, long, count)
 
-        calm_mid : Calm mid
+        calm_mid : Untampered mid
         calm_mid = reads.opens.ok.calm calm_first
 
         start_read : start_of v1 ≡ opened_start closing []
         start_read = start_mid reads.opens.ok.stays reads.numbered
 
         -- what was read lies in the closing's region
-        lie_there : (lie : Lie) → s2.lie ≡ Some lie → (lie.region ≡ closing.region) ⊎ (lie.region ≡ closing.region → ⊥) → lie.region ≡ closing.region
+        lie_there : (lie : FalseRead) → s2.lie ≡ Some lie → (lie.region ≡ closing.region) ⊎ (lie.region ≡ closing.region → ⊥) → lie.region ≡ closing.region
         lie_there lie told (inl here) = here
         lie_there lie told (inr off) =
             let in_asked = calm_mid.within lie told in
@@ -307,7 +307,7 @@ module _ {R : Type 0} (state : R → RevState) (config : Config) (keys : KeySet)
         region_below : (i : ℕ) (t : Listed) → slice_get listed i ≡ Some t → t.table.region < closing.region
         region_below i t is = (table_is closing listed reads.catalogue i t is).region_most
 
-        pub fits_read : (lie : Lie) → s2.lie ≡ Some lie → TagFits keys (opened_start closing listed) lie
+        pub fits_read : (lie : FalseRead) → s2.lie ≡ Some lie → TagFits keys (opened_start closing listed) lie
         fits_read lie told =
             fits_listed closing keys listed lie (lie_there lie told (cases_eq lie.region closing.region)) region_below
             (fits_as v1.keys keys (start_of v1) (opened_start closing []) lie (keys_mid reads.opens.ok.stays) start_read (calm_mid.calm lie told))
@@ -360,7 +360,7 @@ module _ {R : Type 0} (state : R → RevState) (config : Config) (keys : KeySet)
             pub keys_last : v2.keys ≡ keys
             keys_last = reopens.opens.ok.stays.keys ∙ keys_mid reads.opens.ok.stays
 
-            pub calm_last : Calm last
+            pub calm_last : Untampered last
             calm_last = reopens.opens.ok.calm calm_mid
 
             pub next_last : closing.region + 1 ≡ v2.next
@@ -414,12 +414,12 @@ module _ {R : Type 0} (state : R → RevState) (config : Config) (keys : KeySet)
   read_true tells nolie = record { tells = subst IsTrue (sym room.tells) tells; nolie = nolie }
 
   -- it is not refused, but where the store failed or memory was wanted
-  pub refused_never : (e : OpenErr) → ReadsClosing closing (Err e) fore amid → IsTrue s.tells → s2.lie ≡ None → (tables : Tables) → Rests keys closing s.kept tables → (e ≡ Failed) ⊎ (e ≡ NoMemory)
+  pub refused_never : (e : OpenErr) → ReadsClosing closing (Err e) fore amid → IsTrue s.tells → s2.lie ≡ None → (tables : Tables) → IsAtRest keys closing s.kept tables → (e ≡ Failed) ⊎ (e ≡ NoMemory)
   refused_never e reads tells nolie tables rests =
       (reads.told (read_true tells nolie) (catalogue_rows closing.region rests.listed) (rows_kept _ rests.closing_is.rows)).read rests.listed rests.closing_is.catalogue refl
 
   module _ (listed : List Listed) (reads : ReadsClosing closing (Ok listed) fore amid) (tells : IsTrue s.tells) (nolie : s2.lie ≡ None)
-      (tables : Tables) (rests : Rests keys closing s.kept tables) where
+      (tables : Tables) (rests : IsAtRest keys closing s.kept tables) where
     -- what is read is what was listed
     same_list : listed ≡ rests.listed
     same_list = (reads.told (read_true tells nolie) (catalogue_rows closing.region rests.listed) (rows_kept _ rests.closing_is.rows)).read rests.listed rests.closing_is.catalogue refl
@@ -543,7 +543,7 @@ module _ {R : Type 0} (state : R → RevState) (config : Config) (keys : KeySet)
         nolie_before : t.lie ≡ None → s2.lie ≡ None
         nolie_before nolie = sym reopens.lie ∙ nolie
 
-        represents : IsTrue s.tells → t.lie ≡ None → (tables : Tables) → Rests keys closing s.kept tables → Represents state e t tables
+        represents : IsTrue s.tells → t.lie ≡ None → (tables : Tables) → IsAtRest keys closing s.kept tables → Represents state e t tables
         represents tells nolie tables rests = record {
           held =
               subst (λ (xs : List Index). AreHeld e.public.pack xs e.public.tables tables (world_of state e t)) (sym unindexed)

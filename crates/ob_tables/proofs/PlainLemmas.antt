@@ -1,5 +1,5 @@
 -- What a statement means that accesses no index.
-use Rattle.ob_tables.proofs.Words.{Access, accessed, AfterCount, answer_of, ap, Bool, by_shape, Cut, drawn_by, Draws, draws_taken, early_refusal, End, Err, false, followed, Groups, has_index, Heading, headings, IfOk, if◌then◌else◌, is_access, is_index, is_late, Joined, limits_of, List, MakesFlat, None, not, Ok, OpErr, Option, option_map_or, Outcome, Public, refl, Refusal, refusal, Result, RunStop, selects_rows, settle, settled, Skeleton, skeleton, Some, Static, Stmt, Stored, stored_at, stored_regions, Tables, true, Whole, with_table, ℕ, [], ◌∙◌, ◌≡◌}
+use Rattle.ob_tables.proofs.Words.{Access, accessed, AfterCount, answer_of, ap, Bool, by_shape, Cut, drawn_by, Draws, draws_taken, early_refusal, End, Err, false, followed, Groups, has_index, Heading, headings, IfOk, if◌then◌else◌, is_access, is_index, is_late, Batched, limits_of, List, MakesFlat, None, not, Ok, OpErr, Option, option_map_or, Outcome, Public, refl, Refusal, refusal, Result, RunStop, selects_rows, settle, settled, Skeleton, skeleton, Some, Static, Stmt, Stored, stored_at, stored_regions, Tables, true, Whole, with_table, ℕ, [], ◌∙◌, ◌≡◌}
 use Rattle.std.specs.Prelude.{IfErr, is_some}
 use Rattle.std.specs.Option.{is_none}
 use Rattle.ob_base.specs.declared.schema.Shape.{Shape}
@@ -85,7 +85,7 @@ none_drawn p other none made = ap (λ (b : Bool). if b then 1 else 0) none
 
 pub no_draws : (p : Public) (s : Skeleton) (end : End) → is_access p s ≡ false → MakesFlat s → draws_taken p s end ≡ 0
 no_draws p s Static none made = refl
-no_draws p s Joined none made = refl
+no_draws p s Batched none made = refl
 no_draws p s other none made = none_drawn p s none made
 
 -- what belongs to the table of a name, where it is the same for each flat one

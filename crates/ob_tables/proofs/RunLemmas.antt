@@ -1,5 +1,5 @@
 -- How a statement of an engine ends.
-use Rattle.ob_tables.proofs.Words.{Access, AfterCount, Agrees, answer_of, ap, append-nil, AreDraws, AreTables, arith, Began, Bool, by_fault, Cut, draw_seed_of, drawn_by, DrawPlace, Draws, draws_taken, End, Engine, Err, false, free_after, Global, if◌then◌else◌, Index, inl, inr, is_fault, is_late, is_stop, is_store_fault, IsFree, IsStashOf, IsTrue, Joined, key_of, KeySet, later_rests, length, length-append, List, makes, max, nat_tests, None, Ok, Opens, OpErr, Option, others_of, Outcome, PassCut, Public, RanStatement, Ready, refl, Refusal, Refused, refused_end, Result, RevState, RoomState, run_script, RunCause, RunStop, Seen, Skeleton, slice_get, Some, Start, start_of, Static, StoreState, subst, sym, take, true, UsesRoom, Vault, Vec, Went, Whole, whole_run, World, world_of, ℕ, [], ◌%◌, ◌++◌, ◌+◌, ◌-◌, ◌<◌, ◌^◌, ◌∙◌, ◌≡◌, ◌≤◌, ◌⊎◌}
+use Rattle.ob_tables.proofs.Words.{Access, AfterCount, Agrees, answer_of, ap, append-nil, AreDraws, AreTables, arith, Began, Bool, by_fault, Cut, draw_seed_of, drawn_by, DrawPlace, Draws, draws_taken, End, Engine, Err, false, free_after, Global, if◌then◌else◌, Index, inl, inr, is_fault, is_late, is_stop, is_store_fault, IsFree, IsStashOf, IsTrue, Batched, key_of, KeySet, later_rests, length, length-append, List, makes, max, nat_tests, None, Ok, Opens, OpErr, Option, others_of, Outcome, PassCut, Public, RanStatement, Ready, refl, Refusal, Refused, refused_end, Result, RevState, RoomState, run_script, RunCause, RunStop, Seen, Skeleton, slice_get, Some, Start, start_of, Static, StoreState, subst, sym, take, true, UsesRoom, Vault, Vec, Went, Whole, whole_run, World, world_of, ℕ, [], ◌%◌, ◌++◌, ◌+◌, ◌-◌, ◌<◌, ◌^◌, ◌∙◌, ◌≡◌, ◌≤◌, ◌⊎◌}
 use Rattle.std.proofs.Common.{OnOk}
 use Rattle.ob_tables.specs.declared.stop.RunStop.TheVariants as Stops
 use Rattle.ob_base.proofs.AccessLemmas.{makes-append}
@@ -84,7 +84,7 @@ pub leaves_none : (p : Public) (s : Skeleton) (end : End) (q : ℕ) (P : Type 0)
 leaves_none p s Static q P none is = absurd (cc is)
 leaves_none p s Whole q P none is = absurd (cc (none, is))
 leaves_none p s AfterCount q P none is = absurd (cc is)
-leaves_none p s Joined q P none is = absurd (cc is)
+leaves_none p s Batched q P none is = absurd (cc is)
 leaves_none p s (Cut n) q P none is = absurd (cc is)
 
 -- as where tables aren't saved, or none is changed
@@ -114,7 +114,7 @@ may_have state old s agrees = record { fit = agrees.fit; aside = agrees.aside; k
 -- nothing is drawn, however a statement ends
 pub taken_none : (p : Public) (s : Skeleton) → drawn_by p s ≡ 0 → (end : End) → draws_taken p s end ≡ 0
 taken_none p s none Static = refl
-taken_none p s none Joined = refl
+taken_none p s none Batched = refl
 taken_none p s none other = none
 
 -- the same draws, where none was taken

@@ -1,5 +1,5 @@
 -- The tables of an engine are listed in a closing, and it goes on.
-use Rattle.ob_tables.proofs.Words.{AcceptsClosings, Access, Agrees, ap, append-nil, AreFlat, AreSalted, AreTables, arith, Began, Bool, Calm, cases_eq, catalogue_of, Closing, count_of, draw_seed_of, Engine, Err, false, flat_of, free_after, get_or, Heading, headings_of, Index, inl, inr, IsBeside, IsCatalogue, IsClosing, IsFree, IsStashOf, IsTableRegion, IsTrue, KeepsLive, KeptRegion, key_of, KeySet, later_rests, length, List, Listed, make_at, makes, Mark, max, MayAsk, neither, None, Ok, one, Option, others_of, refl, Region, represents_lasts, Rests, Result, RevState, RoomState, Seals, seals_join, seals_rests, slice_get, Some, start_of, StoreState, subst, suc, sym, Tables, true, Vault, Went, went_join, went_rests, World, world_of, WritesClosing, zero, ℕ, [], ◌++◌, ◌+◌, ◌<◌, ◌^◌, ◌∙◌, ◌∷◌, ◌≡◌, ◌≢◌, ◌≤◌, ◌⊎◌}
+use Rattle.ob_tables.proofs.Words.{AcceptsClosings, Access, Agrees, ap, append-nil, AreFlat, AreSalted, AreTables, arith, Began, Bool, Untampered, cases_eq, catalogue_of, Closing, count_of, draw_seed_of, Engine, Err, false, flat_of, free_after, get_or, Heading, headings_of, Index, inl, inr, IsBeside, IsCatalogue, IsClosing, IsFree, IsStashOf, IsTableRegion, IsTrue, KeepsLive, KeptRegion, key_of, KeySet, later_rests, length, List, Listed, make_at, makes, Mark, max, MayAsk, neither, None, Ok, one, Option, others_of, refl, Region, represents_lasts, IsAtRest, Result, RevState, RoomState, Seals, seals_join, seals_rests, slice_get, Some, start_of, StoreState, subst, suc, sym, Tables, true, Vault, Went, went_join, went_rests, World, world_of, WritesClosing, zero, ℕ, [], ◌++◌, ◌+◌, ◌<◌, ◌^◌, ◌∙◌, ◌∷◌, ◌≡◌, ◌≢◌, ◌≤◌, ◌⊎◌}
 use Rattle.std.specs.Prelude.{nat_le}
 use Rattle.std.specs.List.{All}
 use Rattle.std.proofs.lemmas.Bool.{leb-false}
@@ -182,7 +182,7 @@ module _ {R : Type 0} (state : R → RevState) (e : Engine R) (s s1 : StoreState
             λ i. (pair_of (keys i) (region i)).salt
 
         -- ---- it was not written
-        cause_as : (err : CloseErr) → Cause (vault_error err) before last → ClosingCause err s t × (Calm before → Calm last)
+        cause_as : (err : CloseErr) → Cause (vault_error err) before last → ClosingCause err s t × (Untampered before → Untampered last)
         cause_as Failed cause = (cause.0, cause.1)
         cause_as NoMemory cause = (cause.0, cause.1)
 
@@ -416,7 +416,7 @@ module _ {R : Type 0} (state : R → RevState) (e : Engine R) (s s1 : StoreState
           }
 
           -- ---- what rests
-          abbrev rests : IsTrue s.tells → (tables : Tables) → Represents state e s tables → Rests e.vault.keys (next_closing e s) t.kept (by_name tables)
+          abbrev rests : IsTrue s.tells → (tables : Tables) → Represents state e s tables → IsAtRest e.vault.keys (next_closing e s) t.kept (by_name tables)
           rests tells tables held =
               let tells_fore : IsTrue s1.tells = subst IsTrue (sym first.lasts.later.tells) tells in
               let tells_last : IsTrue t.tells = subst IsTrue (sym went.lasts.later.tells) tells in
@@ -449,7 +449,7 @@ module _ {R : Type 0} (state : R → RevState) (e : Engine R) (s s1 : StoreState
               inr (record { place = from.0; table = from.1; get = from.2; region = ap (λ (x : Listed). x.table.region) (sym from.3) ∙ sym of.3 })
 
           outlasts : (tells : IsTrue s.tells) (tables : Tables) → Represents state e s tables → (now : ℕ → Option KeptRegion)
-              → ((q : ℕ) → (q ≡ (next_closing e s).region) ⊎ IsTableRegion e.public.tables q → now q ≡ t.kept q) → Rests e.vault.keys (next_closing e s) now (by_name tables)
+              → ((q : ℕ) → (q ≡ (next_closing e s).region) ⊎ IsTableRegion e.public.tables q → now q ≡ t.kept q) → IsAtRest e.vault.keys (next_closing e s) now (by_name tables)
           outlasts tells tables held now same =
               rests_last e.vault.keys t.kept now (next_closing e s) (by_name tables) (rests tells tables held) (λ q at. same q (needed q at))
 

@@ -1,5 +1,5 @@
--- What waits in the store behind a statement, where tables are saved.
-use Rattle.ob_tables.proofs.Words.{AfterCount, Agrees, ap, arith, Bool, bytes_eq, bytes_eq-Decides, cond, Cut, End, Engine, Err, false, Groups, if◌then◌else◌, IsTableRegion, Joined, left_region, List, None, Ok, Option, option_map, Outcome, Public, RanStatement, refl, Result, RevState, RunStop, Skeleton, slice_get, Some, Static, Stored, stored_at, stored_region, stored_regions, StoreState, suc, sym, true, Whole, zero, ℕ, [], ◌<◌, ◌∙◌, ◌∷◌, ◌≡◌}
+-- What waits in the store after a statement, where tables are saved.
+use Rattle.ob_tables.proofs.Words.{AfterCount, Agrees, ap, arith, Bool, bytes_eq, bytes_eq-Decides, cond, Cut, End, Engine, Err, false, Groups, if◌then◌else◌, IsTableRegion, Batched, left_region, List, None, Ok, Option, option_map, Outcome, Public, RanStatement, refl, Result, RevState, RunStop, Skeleton, slice_get, Some, Static, Stored, stored_at, stored_region, stored_regions, StoreState, suc, sym, true, Whole, zero, ℕ, [], ◌<◌, ◌∙◌, ◌∷◌, ◌≡◌}
 use Rattle.ob_base.specs.declared.schema.Table.{Table}
 use Rattle.ob_base.specs.declared.skeleton.Skeleton.TheVariants.{Create, Insert, Update, Delete, Drop as DropTable, Rows}
 use Rattle.ob_script.specs.Saved.{left_by, left_then, run_next}
@@ -7,7 +7,7 @@ use Rattle.ob_tables.specs.Agreeing.{replaced_of}
 use Rattle.ob_tables.specs.Running.{GoesOn, LeftBehind}
 use Rattle.ob_tables.specs.Saving.{Waits, WaitsAt}
 
--- the region of a name, behind a first table that has it or hasn't
+-- the region of a name, after a first table that has it or hasn't
 abbrev behind : (name : List ℕ) (t : Table) (ts : List Table) → Bool → Option ℕ
 behind name t ts b = option_map (λ (u : Stored ℕ). u.held) (cond b (Some (stored_region t)) (stored_at name (stored_regions ts)))
 
@@ -84,7 +84,7 @@ module _ {R : Type 0} (state : R → RevState) (old : Engine R) (s : StoreState)
     left_at (Ok outcome) Static same ran q is = let none = ap (left_then old.public skeleton) same in absurd (cc (none, is))
     left_at (Ok outcome) Whole same ran q is = left_waits ran.goes_on q (sym (ap (left_then old.public skeleton) same) ∙ is) (ran.stays q is)
     left_at (Ok outcome) AfterCount same ran q is = let none = ap (left_then old.public skeleton) same in absurd (cc (none, is))
-    left_at (Ok outcome) Joined same ran q is = let none = ap (left_then old.public skeleton) same in absurd (cc (none, is))
+    left_at (Ok outcome) Batched same ran q is = let none = ap (left_then old.public skeleton) same in absurd (cc (none, is))
     left_at (Ok outcome) (Cut n) same ran q is = let none = ap (left_then old.public skeleton) same in absurd (cc (none, is))
 
     pub waits_behind : (result : Result Outcome RunStop) → RanStatement state skeleton result old s new t → replaced_of old ≡ None → Waits state (left_then old.public skeleton new.seen.end) new t

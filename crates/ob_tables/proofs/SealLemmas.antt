@@ -5,7 +5,7 @@ use Rattle.ob_vault.proofs.Runs.{seals_none}
 use Rattle.ob_flat.specs.Flats.{Accepts}
 
 module _ {R : Type 0} (state : R → RevState) (old : Engine R) (s s1 : StoreState) (rests : ChangesNothing s s1) where
-  -- nothing but room was made
+  -- nothing except room was made
   pub keeps_rests : (new : Engine R) → world_of state new s1 ≡ world_of state old s1 → KeepsSealed state old s new s1
   keeps_rests new same good accepts single = subst (λ (w : World). Seals good (world_of state old s) w) (sym same) (seals_rests _ s s1 rests good)
 

@@ -25,7 +25,7 @@ serves_as {R} {owed} state stmt old s t r q new same answer is serves =
     subst (λ (e : Engine R). ServesSilently state stmt owed r old s e t) (sym is)
     (subst (λ (a : Result Outcome RunStop). ServesSilently state stmt owed a old s same t) (sym answer) serves)
 
--- tables in place stay so behind some statements
+-- tables in place stay so after some statements
 pub keeps_all_in_place : (d : Draws) (p : Public) (m : ℕ) (stmts : List Stmt) (tables : Tables) → AreInPlace p.stash tables → AreInPlace p.stash (settle_all d p m stmts tables)
 keeps_all_in_place d p m [] tables in_place = in_place
 keeps_all_in_place d p m (stmt ∷ stmts) tables in_place = keeps_all_in_place d p m stmts (settle d p m tables stmt) (keeps_in_place d p m tables stmt in_place)

@@ -178,7 +178,7 @@ get_front [] x y (suc i) is = absurd (cc is)
 get_front (z ∷ xs) x y zero is = is
 get_front (z ∷ xs) x y (suc i) is = get_front xs x y i is
 
--- its region, the next, and maybe one more behind it were made, and what stands beside the tables then
+-- its region, the next, and maybe one more after it were made, and what stands beside the tables then
 pub record Beyond (ts : List Table) (other after : ℕ → Type 0) (indexes more : List Index) (new_table : Table) (new : World) : Type 0 where
   pub keeps : (q : ℕ) → other q → after q
   pub beside : (q : ℕ) → after q → other q ⊎ IsBeside (ts ++ new_table ∷ []) q new

@@ -40,7 +40,7 @@ module _ (p : Public) (m : ℕ) (stmt : Stmt) (now : refusal_now p m stmt ≡ No
 pub told_whole : (outcome : Outcome) (whole cut : Type 0) → IsAnswered outcome → whole → by_fault (is_fault outcome) cut whole
 told_whole outcome whole cut answered is = of_other cut whole (is_fault outcome) answered.own is
 
--- nothing but the end is seen of a statement without a count that was cut off
+-- nothing except the end is seen of a statement without a count that was cut off
 pub cut_seen : (failed : Bool) (p : Public) (s : Skeleton) (n k : ℕ) (now : Seen) → now ≡ seen_to Whole → n ≡ k → seen_to (Cut n) ≡ cut_at failed k p s now
 cut_seen failed p s n k now whole same =
     (λ i. record {
@@ -52,7 +52,7 @@ cut_seen failed p s n k now whole same =
     })
     ∙ ap (cut_at failed k p s) (sym whole)
 
--- nothing but its end is seen of a statement
+-- nothing except its end is seen of a statement
 pub plain_as : (now : Seen) (end : End) → now ≡ seen_to end → now ≡ seen_to now.end
 plain_as now end is = is ∙ ap (λ (x : Seen). seen_to x.end) (sym is)
 

@@ -27,7 +27,7 @@ pub use Rattle.ob_base.specs.declared.schema.Column.{Column}
 pub use Rattle.ob_base.specs.declared.schema.Heading.{Heading}
 pub use Rattle.ob_base.specs.declared.schema.Shape.TheVariants.{Indexed}
 pub use Rattle.ob_base.specs.declared.seen.End.{End}
-pub use Rattle.ob_base.specs.declared.seen.End.TheVariants.{AfterCount, Cut, Joined, Static, Whole}
+pub use Rattle.ob_base.specs.declared.seen.End.TheVariants.{AfterCount, Cut, Batched, Static, Whole}
 pub use Rattle.ob_base.specs.declared.seen.Seen.{Seen}
 pub use Rattle.ob_base.specs.declared.skeleton.Skeleton.{Skeleton}
 pub use Rattle.ob_base.specs.declared.skeleton.Skeleton.TheVariants.{Groups}
@@ -57,7 +57,7 @@ pub use Rattle.ob_mutate.specs.declared.inserting.Inserted.TheVariants.{Done}
 pub use Rattle.ob_mutate.specs.declared.settling.Former.{Former}
 pub use Rattle.ob_names.specs.Names.{columns_at}
 pub use Rattle.ob_oram.proofs.Lasting.{index_kept}
-pub use Rattle.ob_oram.specs.Indexes.{IsIndex, Lies}
+pub use Rattle.ob_oram.specs.Indexes.{IsIndex, IsStoredAs}
 pub use Rattle.ob_oram.specs.Ops.{got_in}
 pub use Rattle.ob_oram.specs.Scripts.{access_script}
 pub use Rattle.ob_oram.specs.declared.fault.OramErr.{OramErr}
@@ -67,7 +67,7 @@ pub use Rattle.ob_reopen.specs.Closings.{IsClosing}
 pub use Rattle.ob_reopen.specs.Limits.{IsCatalogue, IsMarked}
 pub use Rattle.ob_reopen.specs.Openings.{IsReopened, ReopensTables}
 pub use Rattle.ob_reopen.specs.Reopened.{opened_public}
-pub use Rattle.ob_reopen.specs.Resting.{AcceptsClosings, AreKept, Rests}
+pub use Rattle.ob_reopen.specs.Resting.{AcceptsClosings, AreKept, IsAtRest}
 pub use Rattle.ob_reopen.specs.Writings.{AreSalted, catalogue_of, HasBlock, WritesClosing}
 pub use Rattle.ob_reopen.specs.declared.closing.Closing.{Closing}
 pub use Rattle.ob_reopen.specs.declared.listed.Listed.{Listed}
@@ -91,14 +91,14 @@ pub use Rattle.ob_sql.specs.declared.stmt.Stmt.{Stmt}
 pub use Rattle.ob_store.proofs.Steps.{later_rests}
 pub use Rattle.ob_store.specs.Calls.{IsBounded, KeepsLive}
 pub use Rattle.ob_store.specs.Runs.{Began, Did}
-pub use Rattle.ob_store.specs.State.{KeptRegion, Lie, StoreState}
+pub use Rattle.ob_store.specs.State.{KeptRegion, FalseRead, StoreState}
 pub use Rattle.ob_vault.proofs.Runs.{seals_join, went_join}
 pub use Rattle.ob_vault.proofs.WordLemmas.{seals_rests, went_rests}
 pub use Rattle.ob_vault.specs.Calls.{Lasts, none, one, Seals, two, Went}
 pub use Rattle.ob_vault.specs.Places.{start_of}
 pub use Rattle.ob_vault.specs.State.{RevState, Start, World}
 unfoldable pub use Rattle.ob_vault.specs.State.{earlier}
-pub use Rattle.ob_vault.specs.Tied.{Calm, Lives, Ready, TagFits}
+pub use Rattle.ob_vault.specs.Tied.{Untampered, Lives, Ready, TagFits}
 pub use Rattle.ob_vault.specs.Words.{IsHonest, MayAsk}
 pub use Rattle.ob_vault.specs.declared.region.Order.TheVariants.{Round}
 pub use Rattle.ob_vault.specs.declared.region.Region.{Region}

@@ -64,7 +64,7 @@ outcomes_of [] answers = []
 outcomes_of (stmt ∷ stmts) [] = []
 outcomes_of (stmt ∷ stmts) (answer ∷ answers) = outcome_of stmt answer ∷ outcomes_of stmts answers
 
--- those by the meaning, behind the first, where nothing is asked between them
+-- those by the meaning, after the first, where nothing is asked between them
 abbrev pub outcomes_behind : Draws → Public → (m : ℕ) → (first : Stmt) → (rest : List Stmt) → Tables
     → List Outcome
 outcomes_behind d p m first rest tables =
@@ -74,12 +74,12 @@ outcomes_behind d p m first rest tables =
 pub record ServesBatch {R : Type 0} (state : R → RevState) (first : Stmt) (rest : List Stmt)
     (result : Result Outcome RunStop) (outcomes : List Outcome)
     (old : Engine R) (s : StoreState) (new : Engine R) (t : StoreState) : Type 0 where
-  -- of the first all that is known of an INSERT, but that the tables are those behind all of them
+  -- of the first all that is known of an INSERT, but that the tables are those after all of them
   pub serves : ServesSilently state first rest result old s new t
   -- each other one is answered: as refused before any access, or for its row, or as the store failed them all
   pub others : IfOk result (λ outcome. AreServedWith old.public (count_of old s) (is_fault outcome)
       rest outcomes)
-  -- and where the store didn't fail, by its meaning over the tables behind those before it
+  -- and where the store didn't fail, by its meaning over the tables after those before it
   pub told : (tables : Tables) (d : Draws) → ReadsTrue state old s t tables
       → IfOk result (λ outcome. by_fault (is_fault outcome) ⊤
       (outcomes ≡ outcomes_behind d old.public (count_of old s) first rest tables))

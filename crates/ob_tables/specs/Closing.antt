@@ -4,7 +4,7 @@ use Rattle.ob_base.specs.Accesses.{drop_script, writes}
 use Rattle.ob_base.specs.declared.access.Access.{Access}
 use Rattle.ob_reopen.specs.declared.mark.Mark.{Mark}
 use Rattle.ob_tables.specs.Agreeing.{engine_keys, engine_start, opened_from, public_of, world_of}
-use Rattle.ob_reopen.specs.Resting.{AcceptsClosings, Rests, by_name}
+use Rattle.ob_reopen.specs.Resting.{AcceptsClosings, IsAtRest, by_name}
 use Rattle.ob_select.specs.Selecting.{AcceptsRows}
 use Rattle.ob_tables.specs.Telling.{Represents}
 use Rattle.ob_tables.specs.declared.engine.Engine.{Engine}
@@ -16,7 +16,7 @@ use Rattle.ob_store.specs.Runs.{Later}
 use Rattle.ob_store.specs.State.{StoreState}
 use Rattle.ob_vault.specs.Calls.{Seals, Went}
 use Rattle.ob_vault.specs.State.{RevState, World}
-use Rattle.ob_vault.specs.Tied.{Calm}
+use Rattle.ob_vault.specs.Tied.{Untampered}
 use Rattle.ob_vault.specs.Words.{SealsAll}
 use Rattle.ob_reopen.specs.Closed.{is_used_up, NotClosed, StaysInUse, IsClosedAs}
 
@@ -47,11 +47,11 @@ pub record ClosesEngine {R : Type 0} (state : R → RevState) (result : Result M
       → IfOk result (λ mark. IsClosedAs (next_closing e s) (closing_script e s) mark s t)
   pub err : IfErr result (λ err. NotClosed (closing_script e s) err s t)
   pub later : Later s t
-  pub calm : Calm (world_of state e s) → Calm (world_of state e t)
+  pub calm : Untampered (world_of state e s) → Untampered (world_of state e t)
   -- the tables that the engine held rest in the store
   pub told : IsTrue s.tells → is_used_up (next_closing e s) ≡ false → (tables : Tables)
       → Represents state e s tables
-      → IfOk result (λ mark. Rests (engine_keys e) (next_closing e s) t.kept (by_name tables))
+      → IfOk result (λ mark. IsAtRest (engine_keys e) (next_closing e s) t.kept (by_name tables))
   -- and nothing comes to lie in clear: the engine's vault is gone, so this is said of one that has its keys and numbers
   pub sealed : (good : ℕ → List ℕ → Bool) → AcceptsRows good (public_of e).pack
       → AcceptsClosings good → Seals good (world_of state e s) (world_of state e t)

@@ -11,7 +11,7 @@ abbrev pub IsNoFault : Refusal → Type 0
 IsNoFault r = is_store_fault r ≡ false
 
 -- how a statement of n accesses ends that is refused so: by the store in the midst, where rows aren't consecutive
--- behind its count, by its rows at its end, and before any access otherwise
+-- after its count, by its rows at its end, and before any access otherwise
 abbrev pub refused_end : Refusal → (n : ℕ) → End
 refused_end StoreFault n = Cut n
 refused_end NotConsecutive n = AfterCount

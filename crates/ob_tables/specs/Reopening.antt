@@ -4,7 +4,7 @@ use Rattle.ob_base.specs.declared.config.Config.{Config}
 use Rattle.ob_reopen.specs.declared.mark.Mark.{Mark}
 use Rattle.ob_reopen.specs.declared.mark.Mark.TheVariants.{Fresh, InUse, Closed, Begun, Saved}
 use Rattle.ob_tables.specs.Agreeing.{Agrees, AreDraws, engine_keys, engine_start, first_draws, has_ended, high_of, indexes_of, opened_from, public_of, replaced_of, rows_of, world_of}
-use Rattle.ob_reopen.specs.Resting.{AcceptsClosings, Rests}
+use Rattle.ob_reopen.specs.Resting.{AcceptsClosings, IsAtRest}
 use Rattle.ob_select.specs.Selecting.{AcceptsRows}
 use Rattle.ob_tables.specs.Telling.{Represents}
 use Rattle.ob_tables.specs.declared.engine.Engine.{Engine}
@@ -18,7 +18,7 @@ use Rattle.ob_seal.specs.KeySet.{KeySet}
 use Rattle.ob_store.specs.Runs.{Did}
 use Rattle.ob_store.specs.State.{StoreState}
 use Rattle.ob_vault.specs.State.{RevState}
-use Rattle.ob_vault.specs.Tied.{AllSealed, Calm, Scope, next_fault}
+use Rattle.ob_vault.specs.Tied.{AllSealed, Untampered, Scope, next_fault}
 use Rattle.ob_reopen.specs.Reopened.{opened_public, opened_start, opening_script, NotOpened}
 
 -- the closing that a mark names, of a pack
@@ -49,7 +49,7 @@ pub record IsOpened {R : Type 0} (state : R → RevState) (config : Config) (key
   pub high : high_of e ≡ 1
   pub rows : rows_of e ≡ config.buffer
   pub did : Did (opening_script closing listed) s t
-  pub calm : Calm (world_of state e t)
+  pub calm : Untampered (world_of state e t)
   -- no region is live that an earlier run didn't make
   pub earlier : (region : ℕ) → closing.region < region → t.live region ≡ None
 
@@ -63,12 +63,12 @@ pub record OpensEngine {R : Type 0} (state : R → RevState) (config : Config) (
   pub tells : t.tells ≡ s.tells
   -- the tables that rest there are those that the engine holds, and no block is taken for a changed one that isn't
   pub told : IsTrue s.tells → t.lie ≡ None → (tables : Tables)
-      → Rests keys closing s.kept tables
+      → IsAtRest keys closing s.kept tables
       → MatchResult result (λ e. Represents state e t tables)
       (λ e. (e ≡ Failed) ⊎ (e ≡ NoMemory))
   -- and no block of a live region lies in clear
   pub sealed : IsTrue s.tells → t.lie ≡ None → (tables : Tables)
-      → Rests keys closing s.kept tables
+      → IsAtRest keys closing s.kept tables
       → IfOk result (λ e. (good : ℕ → List ℕ → Bool) → AcceptsRows good config.pack
       → AcceptsClosings good → (scope : Scope) → scope.below ≤ next_fault s
       → AllSealed good scope (world_of state e t))

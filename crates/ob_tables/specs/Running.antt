@@ -15,7 +15,7 @@ use Rattle.ob_store.specs.State.{StoreState}
 use Rattle.ob_store.specs.Runs.{Later}
 use Rattle.ob_vault.specs.State.{RevState, World}
 use Rattle.ob_vault.specs.Calls.{EndsRead}
-use Rattle.ob_vault.specs.Tied.{Calm, EndsAt}
+use Rattle.ob_vault.specs.Tied.{Untampered, EndsAt}
 use Rattle.ob_mutate.specs.Mutating.{StaysStored}
 use Rattle.ob_script.specs.Saved.{left_then, run_next, run_script}
 use Rattle.ob_mean.specs.Lawful.{height_at}
@@ -85,12 +85,12 @@ result_end (Err stop) n = Cut n
 -- one whose keeper failed
 abbrev pub RunCause : Result Outcome RunStop → World → World → Type 0
 RunCause (Ok outcome) old new =
-    by_fault (is_fault outcome) (Rises old.store.faults new.store.faults) (new.store.faults ≡ old.store.faults) × (Calm old → Calm new)
-RunCause (Err (Tampered q x)) old new = (new.store.faults ≡ old.store.faults) × EndsRead q x new × (Calm old → Calm new ⊎ EndsAt q x new)
-RunCause (Err SinkFault) old new = (new.store.faults ≡ old.store.faults) × (Calm old → Calm new)
-RunCause (Err NoMemory) old new = (new.store.faults ≡ old.store.faults) × (Calm old → Calm new)
-RunCause (Err StoreFault) old new = Rises old.store.faults new.store.faults × (Calm old → Calm new)
-RunCause (Err StashFull) old new = (new.store.faults ≡ old.store.faults) × (Calm old → Calm new)
+    by_fault (is_fault outcome) (Rises old.store.faults new.store.faults) (new.store.faults ≡ old.store.faults) × (Untampered old → Untampered new)
+RunCause (Err (Tampered q x)) old new = (new.store.faults ≡ old.store.faults) × EndsRead q x new × (Untampered old → Untampered new ⊎ EndsAt q x new)
+RunCause (Err SinkFault) old new = (new.store.faults ≡ old.store.faults) × (Untampered old → Untampered new)
+RunCause (Err NoMemory) old new = (new.store.faults ≡ old.store.faults) × (Untampered old → Untampered new)
+RunCause (Err StoreFault) old new = Rises old.store.faults new.store.faults × (Untampered old → Untampered new)
+RunCause (Err StashFull) old new = (new.store.faults ≡ old.store.faults) × (Untampered old → Untampered new)
 RunCause (Err KeeperFault) old new = ⊥
 
 -- the stops that come in an access of an index alone: the store failed in it, or left more rows than the stash has slots

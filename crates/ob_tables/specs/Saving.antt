@@ -11,7 +11,7 @@ use Rattle.ob_reopen.specs.Closed.{NotClosed, is_used_up}
 use Rattle.ob_reopen.specs.Closings.{saved_mark, write_script}
 use Rattle.ob_reopen.specs.Keepers.{AreSaltBytes, IsMark}
 use Rattle.ob_reopen.specs.Limits.{IsMarked}
-use Rattle.ob_reopen.specs.Resting.{AcceptsClosings, Rests, by_name}
+use Rattle.ob_reopen.specs.Resting.{AcceptsClosings, IsAtRest, by_name}
 use Rattle.ob_reopen.specs.Reopened.{NotOpened}
 use Rattle.ob_reopen.specs.Saved.{RestsBy, reopening_keys}
 use Rattle.ob_reopen.specs.declared.closing.Closing.{Closing}
@@ -29,7 +29,7 @@ use Rattle.ob_store.specs.Runs.{Began, Did, Later}
 use Rattle.ob_store.specs.State.{KeptRegion, StoreState}
 use Rattle.ob_vault.specs.Calls.{Seals}
 use Rattle.ob_vault.specs.State.{RevState}
-use Rattle.ob_vault.specs.Tied.{AllSealed, Calm, Scope, next_fault}
+use Rattle.ob_vault.specs.Tied.{AllSealed, Untampered, Scope, next_fault}
 use Rattle.ob_tables.specs.Agreeing.{Agrees, draws_of, engine_keys, engine_start, has_ended, high_of, indexes_of, opened_from, public_of, replaced_of, seen_of, world_of}
 use Rattle.ob_tables.specs.Closing.{next_closing}
 use Rattle.ob_tables.specs.Engines.{IsTableRegion}
@@ -80,7 +80,7 @@ pub record RestsIn (keys : KeySet) (closing : Closing) (kept : ℕ → Option Ke
     (tables : Tables) (own : List Table) : Type 0 where
   pub rests : (now : ℕ → Option KeptRegion)
       → ((q : ℕ) → (q ≡ closing.region) ⊎ IsTableRegion own q → now q ≡ kept q)
-      → Rests keys closing now tables
+      → IsAtRest keys closing now tables
 
 -- an engine's tables were saved, or why not: then the session has ended
 pub record SavesEngine {R : Type 0} (state : R → RevState) (result : Result Mark CloseErr)
@@ -105,7 +105,7 @@ pub record SavesEngine {R : Type 0} (state : R → RevState) (result : Result Ma
   pub some : (t.asked ≡ s.asked → ⊥) → 1 ≤ high_of saved
   pub opened : OnOk result (Opens (save_script e s) (high_of e) (high_of saved))
   pub later : Later s t
-  pub calm : Calm (world_of state e s) → Calm (world_of state saved t)
+  pub calm : Untampered (world_of state e s) → Untampered (world_of state saved t)
   -- whatever comes of it, what is kept of the regions that there were stays: what a mark names that is held goes on to
   -- rest
   pub kept : (q : ℕ) → q ≢ (next_closing e s).region → t.kept q ≡ s.kept q
@@ -123,7 +123,7 @@ pub record SettlesEngine {R : Type 0} (state : R → RevState) (left : Option �
   pub asked : t.asked ≡ s.asked ++ (drop_script left ++ drop_script (replaced_of e))
   pub faults : t.faults ≡ s.faults
   pub later : Later s t
-  pub calm : Calm (world_of state e s) → Calm (world_of state settled t)
+  pub calm : Untampered (world_of state e s) → Untampered (world_of state settled t)
   pub is : settled ≡ record e { replaced = None }
   pub agrees : Agrees state settled t
   pub kept : (q : ℕ) → (left ≡ Some q → ⊥) → (replaced_of e ≡ Some q → ⊥)

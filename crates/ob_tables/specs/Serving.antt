@@ -4,7 +4,7 @@ use Rattle.ob_tables.specs.declared.stop.RunStop.{RunStop}
 use Rattle.ob_tables.specs.declared.stop.RunStop.TheVariants.{KeeperFault, NoMemory, SinkFault, StashFull, StoreFault, Tampered}
 use Rattle.ob_base.specs.declared.seen.End.TheVariants.{Static, AfterCount}
 use Rattle.ob_base.specs.Events.{Event}
-use Rattle.ob_store.specs.State.{Lie, StoreState}
+use Rattle.ob_store.specs.State.{FalseRead, StoreState}
 use Rattle.ob_vault.specs.State.{RevState}
 use Rattle.ob_vault.specs.Tied.{ReadsIn}
 use Rattle.ob_sql.specs.declared.stmt.Stmt.{Stmt}
@@ -68,7 +68,7 @@ pub record Means {R : Type 0} (state : R → RevState) (stmt : Stmt) (owed : Lis
       → IfErr result (λ stop. StopsFull d old.public (count_of old s) tables stmt
       (length t.asked - length s.asked) stop)
   -- the first changed block that is read is one that the statement over the tables before reads too
-  pub begun : (tables : Tables) (d : Draws) → AreDraws old d → ReadsTrue state old s s tables → (lie : Lie)
+  pub begun : (tables : Tables) (d : Draws) → AreDraws old d → ReadsTrue state old s s tables → (lie : FalseRead)
       → t.lie ≡ Some lie
       → ReadsIn lie (s.asked ++ meant_script d old.public (count_of old s) tables stmt)
 
@@ -83,7 +83,7 @@ pub record Serves {R E : Type 0} (state : R → RevState) (grew cut : E → E �
   pub early : RefusedEarly (refusal_now old.public (count_of old s) stmt) result new.seen
   -- what is seen may be seen
   pub lawful : Lawful old.public (count_of old s) stmt new.seen
-  -- want of memory tells of no rows but those that are emitted
+  -- want of memory tells of no rows except those that are emitted
   pub memory : result ≡ Err NoMemory → LacksMemory old.public stmt new.seen s t (HasHalted cut out_old out_new)
   -- a stash is full only where an access read more rows than fit
   pub full : result ≡ Err StashFull → (d : Draws) → AreDraws old d → FillsStash (next_draw d)
@@ -93,7 +93,7 @@ pub record Serves {R E : Type 0} (state : R → RevState) (grew cut : E → E �
   pub answered : IfOk result (λ outcome. Answered state grew stmt outcome old s t out_old out_new)
   pub stopped : IfErr result (λ stop. Stopped state grew cut stmt stop old s new t out_old out_new)
   pub sink : SinkStops result (faults out_old) (faults out_new)
-  -- an emitter stops nothing but a SELECT
+  -- an emitter stops nothing except a SELECT
   pub emits : result ≡ Err SinkFault → MayEmit stmt
   pub means : Means state stmt [] result old s new t
 

@@ -9,14 +9,14 @@ use Rattle.ob_base.specs.declared.schema.Shape.{Shape}
 use Rattle.ob_base.specs.declared.schema.Shape.TheVariants.{Flat, Indexed}
 use Rattle.ob_base.specs.Indexes.{height_of, path_blocks}
 use Rattle.ob_base.specs.Stored.{Stored}
-use Rattle.ob_oram.specs.Indexes.{Lies}
+use Rattle.ob_oram.specs.Indexes.{IsStoredAs}
 use Rattle.ob_oram.specs.declared.index.Index.{Index}
 use Rattle.ob_base.specs.declared.schema.Table.{Table}
 use Rattle.ob_base.specs.Events.{Event}
 use Rattle.ob_store.specs.State.{StoreState}
 use Rattle.ob_script.specs.Saved.{run_script}
 use Rattle.ob_vault.specs.State.{RevState, World}
-use Rattle.ob_vault.specs.Tied.{Calm, IsUnfit}
+use Rattle.ob_vault.specs.Tied.{Untampered, IsUnfit}
 use Rattle.ob_vault.specs.Calls.{Seals}
 use Rattle.ob_flat.specs.Flats as F
 use Rattle.ob_sql.specs.declared.stmt.Stmt.{Stmt}
@@ -40,7 +40,7 @@ use Rattle.ob_verdict.specs.Outcomes.{outcome_of, by_fault}
 abbrev pub HoldsTable : Shape → (pack : ℕ) → List Index → Table → Stored Held → World → Type 0
 HoldsTable Flat pack indexes t held w = F.Represents pack (flat_of t) held.held.slots w
 HoldsTable Indexed pack indexes t held w =
-    (k : ℕ) (x : Index) → slice_get indexes k ≡ Some x → x.tree ≡ t.region → Lies x (index_of held.heading held.held) w
+    (k : ℕ) (x : Index) → slice_get indexes k ≡ Some x → x.tree ≡ t.region → IsStoredAs x (index_of held.heading held.held) w
 
 -- each table holds what the table in place does that stands beside it
 abbrev pub AreHeld : (pack : ℕ) → List Index → List Table → Tables → World → Type 0
@@ -65,7 +65,7 @@ pub record ReadsTrue {R : Type 0} (state : R → RevState) (old : Engine R) (s t
 pub record ReadsTrueUntil {R : Type 0} (state : R → RevState) (old : Engine R) (s : StoreState) (new : Engine R) (t : StoreState) (tables : Tables) : Type 0 where
   pub tells : IsTrue s.tells
   pub held : Represents state old s tables
-  pub calm : Calm (world_of state old s)
+  pub calm : Untampered (world_of state old s)
   pub unfit : IsUnfit (world_of state new t)
 
 -- ---- the accesses
@@ -74,13 +74,13 @@ abbrev pub meant_script : Draws → Public → (m : ℕ) → Tables → Stmt →
 meant_script d p m tables stmt = run_script p (skeleton stmt) (seen d p m tables stmt)
 
 -- a statement that went to its end, or was refused before: its answer is the verdict, and what is seen and what the tables are
--- follows from the tables before, of which m accesses were asked; the tables are those behind others too that it was served with
+-- follows from the tables before, of which m accesses were asked; the tables are those after others too that it was served with
 pub record Meant {R : Type 0} (state : R → RevState) (stmt : Stmt) (owed : List Stmt) (m : ℕ) (d : Draws) (tables : Tables) (outcome : Outcome) (old new : Engine R) (t : StoreState) : Type 0 where
   pub answer : outcome ≡ outcome_of stmt (verdict old.public m tables stmt)
   pub seen : new.seen ≡ seen d old.public m tables stmt
   pub held : Represents state new t (settle_all d old.public m (stmt ∷ owed) tables)
 
--- what is seen of one that was cut off, at an access that failed or behind one
+-- what is seen of one that was cut off, at an access that failed or after one
 abbrev pub SeenCut : {R : Type 0} → (failed : Bool) → Draws → Stmt → Tables → (old : Engine R) → StoreState → (new : Engine R) → StoreState → Type 0
 SeenCut failed d stmt tables old s new t =
     new.seen ≡ cut_at failed (length t.asked - length s.asked) old.public (skeleton stmt) (seen d old.public (count_of old s) tables stmt)
@@ -106,11 +106,11 @@ abbrev pub IsNotTampered : RunStop → Type 0
 IsNotTampered stop = is_refused stop ≡ false
 
 -- ---- a full stash
--- the reads of an access, behind which a full stash ends the session
+-- the reads of an access, after which a full stash ends the session
 abbrev pub access_reads : Public → Tables → Stmt → ℕ
 access_reads p tables stmt = option_map_or (λ a. p.stash + path_blocks (height_of a.table.heading.capacity)) (accessed tables stmt) 0
 
--- a stop behind n accesses: at a full stash it is the meaning's that is, and all was read; and where the meaning's is full no
+-- a stop after n accesses: at a full stash it is the meaning's that is, and all was read; and where the meaning's is full no
 -- more is asked
 pub record StopsFull (d : Draws) (p : Public) (m : ℕ) (tables : Tables) (stmt : Stmt) (n : ℕ) (stop : RunStop) : Type 0 where
   pub full : stop ≡ StashFull → is_full d p m tables stmt ≡ true

@@ -192,7 +192,7 @@ fn give_next(refusal: Option<Refusal>, answers: &[Inserted], given: usize) -> (O
     }
 }
 
-// Gives the answers behind so many, in order, to those that aren't refused before any access.
+// Gives the answers after so many, in order, to those that aren't refused before any access.
 fn give_all(
     refusals: &[Option<Refusal>],
     answers: &[Inserted],
@@ -220,7 +220,7 @@ fn failed_by(refusal: Option<Refusal>) -> Outcome
     }
 }
 
-// The store failed them all but those that are refused before any access.
+// The store failed them all except those that are refused before any access.
 fn fail_all(refusals: &[Option<Refusal>], outcomes: &mut [Outcome])
     requires { length outcomes.old ≡ length refusals.now }
     ensures { outcomes.new ≡ map failed_by refusals.now }
@@ -231,7 +231,7 @@ fn fail_all(refusals: &[Option<Refusal>], outcomes: &mut [Outcome])
 }
 
 impl<R: Revisions> Engine<R> {
-    // The batch of an INSERT that isn't refused before any access and of those behind it that aren't.
+    // The batch of an INSERT that isn't refused before any access and of those after it that aren't.
     fn batch_of(&self, schema: &Schema, first: &Stmt, rest: &[Stmt]) -> Result<Batch, NoMemory>
         requires pack { 1 ≤ (public_of self.now).pack }
         requires buffer { 3 * (public_of self.now).pack + 1 ≤ (public_of self.now).buffer }
@@ -258,7 +258,7 @@ impl<R: Revisions> Engine<R> {
     }
 
     /// INSERTs into one flat table, one after the other, in one reading and one writing pass: `first`, which a batch
-    /// begins with, and those behind it, which are answered in `outcomes`. Their rows go to the table's first empty
+    /// begins with, and those after it, which are answered in `outcomes`. Their rows go to the table's first empty
     /// slots; one that is refused before any access has none. The table lies in a fresh region then.
     ///
     /// The accesses are those of `first` alone. Where the store fails, it fails each that has a row; and after a stop

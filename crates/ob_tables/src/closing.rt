@@ -82,7 +82,7 @@ impl<R: Revisions> Engine<R> {
         } = self;
         let tables = public.tables.as_slice();
         // one to discard the old closing, one to make the new one, and one to write each of its blocks
-        if store.room(3 + tables.len() as u64).is_err() {
+        if store.reserve(3 + tables.len() as u64).is_err() {
             return Err(CloseErr::NoMemory);
         }
         let Ok(listed) = list_tables(alloc, &vault, tables) else {

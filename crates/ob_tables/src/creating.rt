@@ -77,7 +77,7 @@ impl<R: Revisions> Engine<R> {
         let before = store.count();
         let schema = new_schema(table, columns);
         let blocks = capacity.div_ceil(u32::from(self.public.pack));
-        if store.room(1 + u64::from(blocks)).is_err() {
+        if store.reserve(1 + u64::from(blocks)).is_err() {
             return self.cut(0, OpErr::NoMemory);
         }
         let region = self.public.next_region;
@@ -113,7 +113,7 @@ impl<R: Revisions> Engine<R> {
         let schema = new_schema(table, columns);
         let slots = u32::from(self.public.stash);
         let blocks = u64::from(tree_blocks(tree_height(capacity))) + u64::from(slots);
-        if store.room(2 + blocks).is_err() || self.indexes.reserve(1).is_err() {
+        if store.reserve(2 + blocks).is_err() || self.indexes.reserve(1).is_err() {
             return self.cut(0, OpErr::NoMemory);
         }
         let Ok(draws) = next_draws(self.alloc, &mut self.draws, capacity) else {

@@ -45,7 +45,7 @@ impl<R: Revisions> Engine<R> {
         ensures serves { ServesSilently R.state (DropTable table.now) [] result
             self.old (S.state store.old) self.new (S.state store.new) }
     {
-        if store.room(1).is_err() {
+        if store.reserve(1).is_err() {
             return self.cut(0, OpErr::NoMemory);
         }
         let former = self.former();
@@ -70,7 +70,7 @@ impl<R: Revisions> Engine<R> {
         ensures serves { ServesSilently R.state (DropTable table.now) [] result
             self.old (S.state store.old) self.new (S.state store.new) }
     {
-        if store.room(2).is_err() {
+        if store.reserve(2).is_err() {
             return self.cut(0, OpErr::NoMemory);
         }
         let index = self.take_index(k);

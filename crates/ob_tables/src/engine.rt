@@ -13,7 +13,7 @@ use crate::stop::RunStop;
 use ob_base::{Config, End, Items, NoMemory, Public, Refusal, Seen};
 use ob_flat::OpErr;
 use ob_oram::{Index, OramErr};
-use ob_room::Room;
+use ob_room::RowBuffer;
 use ob_seal::{Draws, Keys};
 use ob_vault::{Revisions, Vault};
 use ob_verdict::Outcome;
@@ -34,7 +34,7 @@ pub struct Engine<R: Revisions> {
     /// The keeper of the regions, of their keys and of what was written there last.
     pub vault: Vault<R>,
     /// The buffer of open rows.
-    pub room: Room,
+    pub room: RowBuffer,
     /// What a watcher knows of the tables.
     pub public: Public,
     pub(crate) seen: Seen,
@@ -77,7 +77,7 @@ impl<R: Revisions> Engine<R> {
         ensures none_open { IfOk result (λ e. high_of e ≡ 0) }
         ensures rows { IfOk result (λ e. rows_of e ≡ config.buffer) }
     {
-        let room = Room::new(alloc, config.buffer, ROW_WIDTH, u32::from(config.pack))?;
+        let room = RowBuffer::new(alloc, config.buffer, ROW_WIDTH, u32::from(config.pack))?;
         let draws = Draws::new(keys.draw_seed());
         Ok(Engine {
             alloc,
@@ -135,7 +135,7 @@ impl<R: Revisions> Engine<R> {
         self.ended
     }
 
-    /// Refuses a statement before any access. Nothing but that is seen of it.
+    /// Refuses a statement before any access. Nothing except that is seen of it.
     pub fn refuse(&mut self, refusal: Refusal) -> Outcome
         ensures answer { result ≡ Outcome.Refused refusal }
         ensures seen { self.new ≡ record self.old { seen = seen_to Static } }

@@ -26,7 +26,7 @@ use ob_base::{Emit, EmitErr, NoMemory, Schema, Shape};
 use ob_flat::OpErr;
 use ob_keyed::{Keyed, accesses, emit_found, outcome_of_got, seen_cut, seen_whole, sought};
 use ob_oram::{Got, Index};
-use ob_room::Room;
+use ob_room::RowBuffer;
 use ob_select::printed_places;
 use ob_sql::Stmt;
 use ob_store::BlockStore;
@@ -53,7 +53,7 @@ fn access_at<S: BlockStore, R: Revisions>(
     alloc: Global,
     store: &mut S,
     vault: &mut Vault<R>,
-    room: &mut Room,
+    room: &mut RowBuffer,
     indexes: &mut [Index],
     k: usize,
     stmt: &Stmt,
@@ -128,7 +128,7 @@ impl<R: Revisions> Engine<R> {
             self.old (S.state store.old) self.new (S.state store.new) out.old out.new }
     {
         let before = store.count();
-        if store.room(accesses(&self.indexes[k])).is_err() {
+        if store.reserve(accesses(&self.indexes[k])).is_err() {
             return self.cut(0, OpErr::NoMemory);
         }
         let draw = self.draws.next();

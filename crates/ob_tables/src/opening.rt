@@ -9,7 +9,7 @@ ghost use Rattle.ob_reopen.specs.Reopened.{opened_public};
 use crate::engine::{Engine, ROW_WIDTH, seen_to_end};
 use ob_base::{Config, End, Items, NoMemory, Public, Table};
 use ob_reopen::{Closing, Listed, Mark, OpenErr, read_closing, reopen_tables};
-use ob_room::Room;
+use ob_room::RowBuffer;
 use ob_seal::{Draws, Keys};
 use ob_store::Lasting;
 use ob_vault::{Revisions, Vault};
@@ -102,10 +102,11 @@ impl<R: Revisions> Engine<R> {
     {
         let closing = closing_of(mark);
         // one to open the closing, one to read each of its blocks, one to open each table
-        if store.room(2 * u64::from(closing.blocks)).is_err() {
+        if store.reserve(2 * u64::from(closing.blocks)).is_err() {
             return Err(OpenErr::NoMemory);
         }
-        let Ok(mut room) = Room::new(alloc, config.buffer, ROW_WIDTH, u32::from(config.pack)) else {
+        let Ok(mut room) = RowBuffer::new(alloc, config.buffer, ROW_WIDTH, u32::from(config.pack))
+        else {
             return Err(OpenErr::NoMemory);
         };
         let last = closing.number + u64::from(closing.blocks) - 1;

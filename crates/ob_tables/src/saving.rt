@@ -1,4 +1,4 @@
-//! An engine whose tables are saved: behind a statement that changed them they are listed in a closing, and a later run
+//! An engine whose tables are saved: after a statement that changed them they are listed in a closing, and a later run
 //! goes on from the one that was written last.
 ghost use Rattle.std.specs.Prelude.{◌≡◌, ◌≢◌, ◌<◌, ◌≤◌, ◌+◌, ◌^◌, ℕ, List, Option, [], Some, None, IfOk, true, false};
 ghost use Rattle.std.specs.Option.{option_map};
@@ -30,7 +30,7 @@ use ob_reopen::{
     CloseErr, Closing, Listed, Mark, OpenErr, list_tables, read_closing, reopen_tables,
     salted_regions, write_closing,
 };
-use ob_room::Room;
+use ob_room::RowBuffer;
 use ob_seal::{Draws, Keys};
 use ob_sql::Stmt;
 use ob_store::{BlockStore, Lasting};
@@ -181,7 +181,7 @@ impl<R: Revisions> Engine<R> {
     ///
     /// `Failed` where the store failed, or doesn't keep a region of this number and size. `Tampered` names a block of the
     /// closing that is not the one that was written there, or that spells no closing. `NoMemory` before the first access,
-    /// or behind the closing's reads.
+    /// or after the closing's reads.
     pub fn open_saved<S: Lasting>(
         alloc: Global,
         config: Config,
@@ -203,10 +203,11 @@ impl<R: Revisions> Engine<R> {
     {
         let (closing, closed) = closing_of(mark);
         // one to open the closing, one to read each of its blocks, one to open each table
-        if store.room(2 * u64::from(closing.blocks)).is_err() {
+        if store.reserve(2 * u64::from(closing.blocks)).is_err() {
             return Err(OpenErr::NoMemory);
         }
-        let Ok(mut room) = Room::new(alloc, config.buffer, ROW_WIDTH, u32::from(config.pack)) else {
+        let Ok(mut room) = RowBuffer::new(alloc, config.buffer, ROW_WIDTH, u32::from(config.pack))
+        else {
             return Err(OpenErr::NoMemory);
         };
         // the salts of the tables lie in the closing: it is read under keys that know no other than its own
@@ -288,7 +289,7 @@ impl<R: Revisions> Engine<R> {
         }
         let tables = self.public.tables.as_slice();
         // one to make the closing, one to write each of its blocks, and two to discard what it makes needless
-        if store.room(4 + tables.len() as u64).is_err() {
+        if store.reserve(4 + tables.len() as u64).is_err() {
             return Err(CloseErr::NoMemory);
         }
         let Ok(listed) = list_tables(self.alloc, &self.vault, tables) else {

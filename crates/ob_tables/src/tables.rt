@@ -78,7 +78,7 @@ impl<R: Revisions> Engine<R> {
             ≤ (S.state store.new).spare) }
     {
         let blocks = flat.capacity.div_ceil(u32::from(self.public.pack));
-        store.room(turns * u64::from(blocks) + 2)
+        store.reserve(turns * u64::from(blocks) + 2)
     }
 
     /// The table at a place now lies in another region.

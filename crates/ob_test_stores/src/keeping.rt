@@ -50,8 +50,8 @@ impl BlockStore for KeepingStore {
 
     ghost starts_steady = { λ s none. starts_steady-law s.inner none };
 
-    fn room(&mut self, n: u64) -> Result<(), NoMemory> {
-        self.inner.room(n)
+    fn reserve(&mut self, n: u64) -> Result<(), NoMemory> {
+        self.inner.reserve(n)
     }
 
     fn make(&mut self, region: u64, blocks: u32, len: u32) -> Result<(), StoreErr> {

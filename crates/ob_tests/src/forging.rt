@@ -66,8 +66,8 @@ impl BlockStore for ForgingStore {
       lied = λ lie is. absurd (cc is);
     } };
 
-    fn room(&mut self, n: u64) -> Result<(), NoMemory> {
-        self.inner.room(n)
+    fn reserve(&mut self, n: u64) -> Result<(), NoMemory> {
+        self.inner.reserve(n)
     }
 
     fn make(&mut self, region: u64, blocks: u32, len: u32) -> Result<(), StoreErr> {

@@ -127,7 +127,7 @@ fn discards_all(rt: HostRuntime) -> Result<(), Fail> {
 }
 
 // The digests are those of no bytes, and of `M 1 4 49`, `W 1 0`, `W 1 1` and `D 1`, each with its end of line, of which the
-// first two are taken before the others are asked, and the list lets go of all behind that.
+// first two are taken before the others are asked, and the list lets go of all after that.
 #[test]
 fn digests_the_trace(rt: HostRuntime) -> Result<(), Fail> {
     let mut store = MemStore::new(rt.alloc());
@@ -136,7 +136,7 @@ fn digests_the_trace(rt: HostRuntime) -> Result<(), Fail> {
     assert_eq!(rt; hex::decode_to_slice(none, &mut expected), Ok(()));
     assert_eq!(rt; TraceDigest::new().finish(), expected);
     let mut digest = TraceDigest::new();
-    store.room(4)?;
+    store.reserve(4)?;
     store.make(1, 4, 49)?;
     store.write(1, 0, &[7; 49])?;
     assert_eq!(rt; store.gone(), 0);

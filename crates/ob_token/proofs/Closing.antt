@@ -69,7 +69,7 @@ plain_on : (b : ℕ) (bs : List ℕ) → (b == 59) ≡ false → (b == 39) ≡ f
 plain_on b bs e f g c = subst (λ m. Closed m bs) (ap (λ v. if v then Quote else if b == 45 then Dash else Plain) f ∙ ap (λ v. if v then Dash else Plain) g)
     (subst (λ v. Then v bs (Closed (mode_after Plain b) bs)) e c)
 
--- behind a dash, what isn't one
+-- after a dash, what isn't one
 dash_plain : (bs : List ℕ) → (first_byte bs == 45) ≡ false → Closed Dash bs → Closed Plain bs
 dash_plain [] e c = c
 dash_plain (b ∷ bs) e c = subst (λ m. Then (b == 59) bs (Closed m bs)) (ap (λ v. if v then Comment else if b == 39 then Quote else Plain) e
@@ -188,7 +188,7 @@ run_other (b ∷ bs) = go (is_digit b) (all_digits (b ∷ bs)) (nat_le (length (
   go false v true = named_other (keyword (map lower (b ∷ bs))) (map lower (b ∷ bs)) (keyword_other (map lower (b ∷ bs)))
   go false v false = refl
 
--- ---- a piece, and what is behind it
+-- ---- a piece, and what is after it
 
 abbrev After : Option Lexeme → List ℕ → Type 0
 After (Some L.Bad) rest = ⊤

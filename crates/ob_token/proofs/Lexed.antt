@@ -1,4 +1,4 @@
--- The tokens behind a piece.
+-- The tokens after a piece.
 use Rattle.std.proofs.Common.{◌≡◌, ℕ, zero, suc, pred, ◌+◌, ◌≤◌, ◌<◌, List, [], ◌∷◌, ◌++◌, length, drop, Bool, true, false, Option, Some, None, refl, sym, ◌∙◌, ap, arith, append-nil, length-drop}
 use Rattle.std.specs.Prelude.{if◌then◌else◌}
 use Rattle.ob_token.specs.declared.token.Lexeme.{Lexeme}

@@ -31,7 +31,7 @@ abbrev pub all_digits : List ℕ → Bool
 all_digits [] = true
 all_digits (b ∷ bs) = is_digit b && all_digits bs
 
--- the number of these digits, behind n
+-- the number of these digits, after n
 abbrev pub decimal : ℕ → List ℕ → ℕ
 decimal n [] = n
 decimal n (d ∷ ds) = decimal (10 * n + (d - 48)) ds
@@ -49,7 +49,7 @@ comment_len [] = 0
 comment_len (b ∷ bs) = if b == 10 then 1 else suc (comment_len bs)
 
 -- how many bytes a text takes, of which n stand before these, with its closing quote; none where it has no
--- end, or a byte that no text has. A quote closes the text (`inside` is false behind it) unless another follows.
+-- end, or a byte that no text has. A quote closes the text (`inside` is false after it) unless another follows.
 abbrev pub quoted_len : (n : ℕ) → (inside : Bool) → List ℕ → Option ℕ
 quoted_len n true [] = None
 quoted_len n false [] = Some n

@@ -1,4 +1,4 @@
--- Tokens of which none but the last byte's is a semicolon.
+-- Tokens of which none except the last byte's is a semicolon.
 use Rattle.std.specs.Prelude.{◌≡◌, ℕ, List, [], ◌∷◌, ⊤}
 use Rattle.ob_token.specs.declared.token.Lexeme.TheVariants as L
 use Rattle.ob_token.specs.declared.token.Mark.TheVariants as M

@@ -50,7 +50,7 @@ blanks (b ∷ bs) = if is_blank b then suc (blanks bs) else 0
 abbrev pub cut : List ℕ → Piece
 cut bytes = cut_from (blanks bytes) (blanks bytes) Plain false (drop (blanks bytes) bytes)
 
--- whether there is nothing but blanks and comments
+-- whether there is nothing except blanks and comments
 unfoldable pub blank_from : Mode → Bool → List ℕ → Bool
 blank_from mode solid [] = not (is_solid mode solid)
 blank_from mode solid (b ∷ bs) = blank_from (mode_after mode b) (solid_after mode solid b) bs

@@ -9,7 +9,7 @@ abbrev pub bad : Lexeme → Bool
 bad L.Bad = true
 bad lexeme = false
 
--- a token, and those behind it; what is no token is the last one
+-- a token, and those after it; what is no token is the last one
 abbrev pub then_token : Token → List Token → List Token
 then_token t rest = t ∷ (if bad t.lexeme then [] else rest)
 

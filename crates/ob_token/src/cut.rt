@@ -9,7 +9,7 @@ ghost use Rattle.ob_token.specs.Tokens.{tokens_of};
 
 use crate::lex::is_blank_byte;
 
-/// Where a byte of a text stands; behind a dash a second one begins a comment.
+/// Where a byte of a text stands; after a dash a second one begins a comment.
 #[derive(Clone, Copy, Debug, PartialEq, Eq)]
 pub enum Mode {
     Plain,
@@ -19,14 +19,14 @@ pub enum Mode {
 }
 
 /// What bytes begin with. `from` is the offset of the text's first byte that isn't blank, or the length where
-/// there is none, and `to` the offset behind its semicolon.
+/// there is none, and `to` the offset after its semicolon.
 #[derive(Clone, Copy, Debug, PartialEq, Eq)]
 pub enum Piece {
     /// No text ends in the bytes.
     More { from: usize },
     /// A text.
     Stmt { from: usize, to: usize },
-    /// Nothing but blanks and comments before a semicolon, which is no statement.
+    /// Nothing except blanks and comments before a semicolon, which is no statement.
     Empty { to: usize },
 }
 
@@ -128,7 +128,7 @@ pub fn split(bytes: &[u8]) -> Piece
     cut_at(bytes, blank_len(bytes))
 }
 
-/// Whether there is nothing but blanks and comments. It takes no memory.
+/// Whether there is nothing except blanks and comments. It takes no memory.
 #[tactic(auto, unfolding(crate::specs::Cutting::blank_from))]
 pub fn is_blank(bytes: &[u8]) -> bool
     ensures { result ≡ all_blank bytes.now }

@@ -83,7 +83,7 @@ fn are_digits(bytes: &[u8]) -> bool
     true
 }
 
-// How many bytes a text takes behind its opening quote.
+// How many bytes a text takes after its opening quote.
 #[tactic(auto, using(crate::proofs::Pieces::quoted_short))]
 fn text_len(bytes: &[u8]) -> Option<usize>
     ensures value { result ≡ quoted_len 0 true bytes.now }
@@ -393,7 +393,7 @@ fn behind(bytes: &[u8], len: usize) -> &[u8]
     &bytes[len..]
 }
 
-// What is still to be cut behind a token: nothing behind bytes that are none.
+// What is still to be cut after a token: nothing after bytes that are none.
 fn unless_bad<'a>(lexeme: &Lexeme, behind: &'a [u8]) -> &'a [u8]
     ensures { result.now ≡ (if bad lexeme.now then [] else behind.now) }
 {
@@ -403,7 +403,7 @@ fn unless_bad<'a>(lexeme: &Lexeme, behind: &'a [u8]) -> &'a [u8]
     }
 }
 
-/// A token, and what is still to be cut behind it: bytes, and their offset.
+/// A token, and what is still to be cut after it: bytes, and their offset.
 #[derive(Drop)]
 struct Cut<'a> {
     token: Token,

@@ -63,7 +63,7 @@ pub enum Lexeme {
     Bad,
 }
 
-/// A token, and where it stands: the offsets of its first byte and behind its last one.
+/// A token, and where it stands: the offsets of its first byte and after its last one.
 #[derive(Debug, Drop)]
 pub struct Token {
     pub lexeme: Lexeme,

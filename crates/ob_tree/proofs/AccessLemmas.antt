@@ -7,7 +7,7 @@ use Rattle.std.proofs.lemmas.List.{append-nil, length-set, get_or_past, get_or_d
 use Rattle.std.proofs.lemmas.List.Elements.{filter-append}
 use Rattle.ob_row.specs.Bags.{Same}
 use Rattle.ob_path.specs.Paths.{path_up, is_on_path}
-use Rattle.ob_path.specs.Rows.{rows, slots_of, with_key, but_firsts, by_key, list_of, first, Single}
+use Rattle.ob_path.specs.Rows.{rows, slots_of, with_key, except_firsts, by_key, list_of, first, Single}
 use Rattle.ob_path.specs.States.{State, Represents, held, leaf_of, bucket}
 use Rattle.ob_path.specs.Access.{Op, key_of, applied, answer, take_path, Evicted, fill, evict, leaf_read, leaves_after, fits_by, evicted, Went, access}
 use Rattle.ob_tree.specs.Runs.{KeepsKey, map_after, map_answer}
@@ -22,9 +22,9 @@ use Rattle.ob_tree.proofs.KeyLemmas.{at_applied, none_at, applied_apart, applied
 -- where nothing is to be put in, nothing is left
 none_left : {R : Type 0} (fits : ℕ → R → Bool) (bs : List ℕ) (e : Evicted R) → e.left ≡ [] → (evict fits bs e).left ≡ []
 none_left fits [] e none = none
-none_left fits (b ∷ bs) e none = none_left fits bs (fill fits b e) (ap (but_firsts 4 (fits b)) none)
+none_left fits (b ∷ bs) e none = none_left fits bs (fill fits b e) (ap (except_firsts 4 (fits b)) none)
 
--- the index behind an access that goes on
+-- the index after an access that goes on
 abbrev pub went : {R : Type 0} → (R → ℕ) → ℕ → State R → Op R → ℕ → Went R
 went key h s op draw = let k = key_of key op in record {
   got = answer (length s.leaves) k op (first (with_key key k (take_path h s (leaf_read h s k draw))));
@@ -110,7 +110,7 @@ module _ {R : Type 0} (key : R → ℕ) (h : ℕ) (s : State R) (m : ℕ → Opt
       by_slot p row (inl never) = absurd (false≢true never)
       by_slot p row (inr was) = ne_eqb (key row) (key_of key op) (other_key p row was.0 was.1 (ltb-true (key_of key op) (length s.leaves) in_range))
 
-  -- the rows behind an access are those before it, with the operation applied
+  -- the rows after an access are those before it, with the operation applied
   pub held_after : Same (held (went key h s op draw).state) (applied key (length s.leaves) op (held s))
   held_after =
       let n = length s.leaves in

@@ -6,7 +6,7 @@ use Rattle.std.proofs.lemmas.Bool.{ne_eqb, or_from, cases_eq}
 use Rattle.std.proofs.lemmas.List.{append-nil}
 use Rattle.std.proofs.lemmas.List.Elements.{All-head, All-tail, All-take, filter_passes}
 use Rattle.ob_row.specs.Bags.{Same}
-use Rattle.ob_path.specs.Rows.{rows, slots_of, firsts, but_firsts}
+use Rattle.ob_path.specs.Rows.{rows, slots_of, firsts, except_firsts}
 use Rattle.ob_path.specs.States.{bucket, with_bucket}
 use Rattle.ob_path.specs.Access.{Evicted, fill, evict}
 use Rattle.ob_row.proofs.BagLemmas.{Same-trans}
@@ -49,7 +49,7 @@ module _ {R : Type 0} (fits : ℕ → R → Bool) where
   filled : (b : ℕ) (e : Evicted R) → Same ((rows (fill fits b e).tree ++ (fill fits b e).left) ++ rows (bucket e.tree b)) (rows e.tree ++ e.left)
   filled b e =
       let taken = firsts 4 (fits b) e.left in
-      let kept = but_firsts 4 (fits b) e.left in
+      let kept = except_firsts 4 (fits b) e.left in
       let tree = with_bucket e.tree b (slots_of 4 taken) in
       let old = rows (bucket e.tree b) in
       Same-trans ((rows tree ++ kept) ++ old) ((rows tree ++ old) ++ kept) (rows e.tree ++ e.left) (Same-to_end (rows tree) kept old)

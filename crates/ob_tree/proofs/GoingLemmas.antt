@@ -1,7 +1,7 @@
 -- The loop over the slots of a buffer.
 use Rattle.std.proofs.Common.{◌≡◌, ◌≤◌, ◌<◌, ℕ, zero, suc, ◌-◌, ◌+◌, ◌/◌, min, Bool, List, [], ◌∷◌, ◌++◌, Option, None, length, take, drop, get_or, sym, ap, ◌∙◌, arith, length-append, append_assoc}
 use Rattle.std.proofs.lemmas.List.{drop_more, take_more, drop_all, append-nil}
-use Rattle.ob_path.specs.Rows.{rows, by_key, firsts, but_firsts, Single}
+use Rattle.ob_path.specs.Rows.{rows, by_key, firsts, except_firsts, Single}
 use Rattle.ob_tree.specs.Slotwise.{laid_slots, left_behind}
 use Rattle.ob_tree.proofs.RowLemmas.{Same-by_key, Same-firsts, length-firsts}
 use Rattle.ob_tree.proofs.OrderLemmas.{length-Same}
@@ -38,7 +38,7 @@ going_more key lf leaf h n i height start old new within level go done =
       room = done.size ∙ go.room;
       single = done.single;
       laid = go.laid ∙ ap (λ ps. take i old ++ laid_slots ps l) now
-          ∙ ap (λ o. take i old ++ o ∷ laid_slots rest (but_firsts 1 (lies_at lf leaf height) l)) (sym done.slot)
+          ∙ ap (λ o. take i old ++ o ∷ laid_slots rest (except_firsts 1 (lies_at lf leaf height) l)) (sym done.slot)
           ∙ ap (λ w. take i old ++ get_or new i None ∷ laid_slots rest w) (sym done.left)
           ∙ sym (append_assoc (take i old) (get_or new i None ∷ []) (laid_slots rest (by_key key (rows (drop (i + 1) new)))))
           ∙ ap (λ w. w ++ laid_slots rest (by_key key (rows (drop (i + 1) new)))) (sym front);
@@ -46,12 +46,12 @@ going_more key lf leaf h n i height start old new within level go done =
     }
 
 -- each slot takes at most one row
-one_less : {R : Type 0} (p : R → Bool) (all : List R) → length all ≤ length (but_firsts 1 p all) + 1
-one_less p all = omega (arith, length-Same (firsts 1 p all ++ but_firsts 1 p all) all (Same-firsts 1 p all), length-append (firsts 1 p all) (but_firsts 1 p all), length-firsts 1 p all)
+one_less : {R : Type 0} (p : R → Bool) (all : List R) → length all ≤ length (except_firsts 1 p all) + 1
+one_less p all = omega (arith, length-Same (firsts 1 p all ++ except_firsts 1 p all) all (Same-firsts 1 p all), length-append (firsts 1 p all) (except_firsts 1 p all), length-firsts 1 p all)
 
 some_left : {R : Type 0} (lf : R → ℕ) (leaf h n i : ℕ) (all : List R) → length all ≤ length (left_behind (tests lf leaf h i n) all) + n
 some_left lf leaf h zero i all = omega arith
-some_left lf leaf h (suc n) i all = omega (arith, some_left lf leaf h n (suc i) (but_firsts 1 (lies_at lf leaf (min (i / 4) h)) all), one_less (lies_at lf leaf (min (i / 4) h)) all)
+some_left lf leaf h (suc n) i all = omega (arith, some_left lf leaf h n (suc i) (except_firsts 1 (lies_at lf leaf (min (i / 4) h)) all), one_less (lies_at lf leaf (min (i / 4) h)) all)
 
 pub going_stuck : {R : Type 0} (key lf : R → ℕ) (leaf h n i height : ℕ) (start old : List (Option R)) → i < n → height ≡ min (i / 4) h → Going key lf leaf h n i start old → StepFull key lf leaf height i old
     → 1 ≤ length (left_behind (tests lf leaf h 0 n) (by_key key (rows start)))

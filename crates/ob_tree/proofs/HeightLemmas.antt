@@ -5,7 +5,7 @@ use Rattle.std.specs.List.{All}
 use Rattle.std.proofs.lemmas.Bool.{cases_eq, eq-eqb, ne_eqb}
 use Rattle.std.proofs.lemmas.List.Elements.{All-head, All-tail, All-cons}
 use Rattle.ob_path.specs.Paths.{path_up, is_on_path}
-use Rattle.ob_path.specs.Rows.{firsts, but_firsts, first}
+use Rattle.ob_path.specs.Rows.{firsts, except_firsts, first}
 use Rattle.ob_path.specs.Access.{fits_by}
 use Rattle.ob_tree.specs.Slotwise.{slot_tests, laid_slots, left_behind}
 use Rattle.ob_tree.proofs.MeetLemmas.{paths_meet}
@@ -19,30 +19,30 @@ Agree P (p ∷ ps) [] = ⊥
 Agree {R} P (p ∷ ps) (q ∷ qs) = ((r : R) → P r → p r ≡ q r) × Agree P ps qs
 
 module _ {R : Type 0} (P : R → Type 0) where
-  firsts_agree : (p q : R → Bool) → ((r : R) → P r → p r ≡ q r) → (all : List R) → All P all → (filter p all ≡ filter q all) × (but_firsts 1 p all ≡ but_firsts 1 q all)
+  firsts_agree : (p q : R → Bool) → ((r : R) → P r → p r ≡ q r) → (all : List R) → All P all → (filter p all ≡ filter q all) × (except_firsts 1 p all ≡ except_firsts 1 q all)
   firsts_agree p q same [] each = (refl, refl)
   firsts_agree p q same (r ∷ all) each =
       let rest = firsts_agree p q same all (All-tail P r all each) in
       let here : p r ≡ q r = same r (All-head P r all each) in (
         ap (λ b. cond b (r ∷ filter p all) (filter p all)) here ∙ ap (λ w. cond (q r) (r ∷ w) w) rest.0,
-        ap (λ b. cond b all (r ∷ but_firsts 1 p all)) here ∙ ap (λ w. cond (q r) all (r ∷ w)) rest.1,
+        ap (λ b. cond b all (r ∷ except_firsts 1 p all)) here ∙ ap (λ w. cond (q r) all (r ∷ w)) rest.1,
       )
 
-  all_but : (p : R → Bool) (all : List R) → All P all → All P (but_firsts 1 p all)
-  all_but p [] each = each
-  all_but p (r ∷ all) each = by_test (all_but p all (All-tail P r all each)) (p r)
+  all_except : (p : R → Bool) (all : List R) → All P all → All P (except_firsts 1 p all)
+  all_except p [] each = each
+  all_except p (r ∷ all) each = by_test (all_except p all (All-tail P r all each)) (p r)
     where
-      by_test : All P (but_firsts 1 p all) → (b : Bool) → All P (cond b all (r ∷ but_firsts 1 p all))
+      by_test : All P (except_firsts 1 p all) → (b : Bool) → All P (cond b all (r ∷ except_firsts 1 p all))
       by_test rest true = All-tail P r all each
-      by_test rest false = All-cons P r (but_firsts 1 p all) (All-head P r all each) rest
+      by_test rest false = All-cons P r (except_firsts 1 p all) (All-head P r all each) rest
 
   pub laid_agree : (ps qs : List (R → Bool)) (all : List R) → Agree P ps qs → All P all → (laid_slots ps all ≡ laid_slots qs all) × (left_behind ps all ≡ left_behind qs all)
   laid_agree [] qs all agree each = (ap (λ w. laid_slots w all) (sym agree), ap (λ w. left_behind w all) (sym agree))
   laid_agree (p ∷ ps) [] all agree each = absurd agree
   laid_agree (p ∷ ps) (q ∷ qs) all agree each =
       let both = firsts_agree p q agree.0 all each in
-      let rest = laid_agree ps qs (but_firsts 1 q all) agree.1 (all_but q all each) in (
-        ap (λ w. first (take 1 w) ∷ laid_slots ps (but_firsts 1 p all)) both.0 ∙ ap (λ w. first (firsts 1 q all) ∷ laid_slots ps w) both.1 ∙ ap (λ w. first (firsts 1 q all) ∷ w) rest.0,
+      let rest = laid_agree ps qs (except_firsts 1 q all) agree.1 (all_except q all each) in (
+        ap (λ w. first (take 1 w) ∷ laid_slots ps (except_firsts 1 p all)) both.0 ∙ ap (λ w. first (firsts 1 q all) ∷ laid_slots ps w) both.1 ∙ ap (λ w. first (firsts 1 q all) ∷ w) rest.0,
         ap (left_behind ps) both.1 ∙ rest.1,
       )
 

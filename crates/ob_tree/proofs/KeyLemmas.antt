@@ -6,7 +6,7 @@ use Rattle.std.proofs.lemmas.Bool.{eqb-true, ne_eqb, eq-eqb, cases_Bool, cases_e
 use Rattle.std.proofs.lemmas.List.{append-nil}
 use Rattle.std.proofs.lemmas.List.Elements.{filter-append, filter_passes, All-head}
 use Rattle.ob_row.specs.Bags.{Same}
-use Rattle.ob_path.specs.Rows.{rows, with_key, but, list_of, first}
+use Rattle.ob_path.specs.Rows.{rows, with_key, except, list_of, first}
 use Rattle.ob_path.specs.Access.{Op, Get, Insert, Change, Remove, key_of, after, applied}
 use Rattle.ob_tree.specs.Runs.{KeepsKey, map_after}
 use Rattle.ob_row.proofs.BagLemmas.{Same-refl, Same-trans, Same-sym, Same-append, Same-filter}
@@ -21,23 +21,23 @@ module _ {R : Type 0} (key : R → ℕ) where
   split_parts r a b all true s = Same-cons r (a ++ b) all s
   split_parts r a b all false s = Same-trans (a ++ r ∷ b) (r ∷ (a ++ b)) (r ∷ all) (Same-middle r a b) (Same-cons r (a ++ b) all s)
 
-  pub Same-parts : (k : ℕ) (all : List R) → Same (with_key key k all ++ but key k all) all
+  pub Same-parts : (k : ℕ) (all : List R) → Same (with_key key k all ++ except key k all) all
   Same-parts k [] = refl
-  Same-parts k (r ∷ all) = split_parts r (with_key key k all) (but key k all) all (key r == k) (Same-parts k all)
+  Same-parts k (r ∷ all) = split_parts r (with_key key k all) (except key k all) all (key r == k) (Same-parts k all)
 
-  pub at_but_same : (k : ℕ) (all : List R) → with_key key k (but key k all) ≡ []
-  at_but_same k [] = refl
-  at_but_same k (r ∷ all) = by_test (at_but_same k all) (cases_Bool (key r == k))
+  pub at_except_same : (k : ℕ) (all : List R) → with_key key k (except key k all) ≡ []
+  at_except_same k [] = refl
+  at_except_same k (r ∷ all) = by_test (at_except_same k all) (cases_Bool (key r == k))
     where
-      by_test : with_key key k (but key k all) ≡ [] → (((key r == k) ≡ true) ⊎ ((key r == k) ≡ false)) → with_key key k (but key k (r ∷ all)) ≡ []
+      by_test : with_key key k (except key k all) ≡ [] → (((key r == k) ≡ true) ⊎ ((key r == k) ≡ false)) → with_key key k (except key k (r ∷ all)) ≡ []
       by_test rest (inl is) = rw is rest
       by_test rest (inr off) = rw off (rw off rest)
 
-  pub at_but_other : (j k : ℕ) → (j ≡ k → ⊥) → (all : List R) → with_key key j (but key k all) ≡ with_key key j all
-  at_but_other j k off [] = refl
-  at_but_other j k off (r ∷ all) = by_test (at_but_other j k off all) (cases_Bool (key r == k))
+  pub at_except_other : (j k : ℕ) → (j ≡ k → ⊥) → (all : List R) → with_key key j (except key k all) ≡ with_key key j all
+  at_except_other j k off [] = refl
+  at_except_other j k off (r ∷ all) = by_test (at_except_other j k off all) (cases_Bool (key r == k))
     where
-      by_test : with_key key j (but key k all) ≡ with_key key j all → (((key r == k) ≡ true) ⊎ ((key r == k) ≡ false)) → with_key key j (but key k (r ∷ all)) ≡ with_key key j (r ∷ all)
+      by_test : with_key key j (except key k all) ≡ with_key key j all → (((key r == k) ≡ true) ⊎ ((key r == k) ≡ false)) → with_key key j (except key k (r ∷ all)) ≡ with_key key j (r ∷ all)
       by_test rest (inl is) =
           let other : (key r == j) ≡ false = ne_eqb (key r) j (λ same. off (sym same ∙ eqb-true (key r) k is)) in
           rw is (rw other rest)
@@ -85,19 +85,19 @@ module _ {R : Type 0} (key : R → ℕ) where
             let was : first (with_key key (key_of key op) all) ≡ m (key_of key op) = ap first (is (key_of key op)) ∙ first-list_of (m (key_of key op)) in
             let keyed : (r : R) → v ≡ Some r → key r ≡ key_of key op = λ r some. keyed_after op keeps (m (key_of key op)) (keyed_row (key_of key op) all (m (key_of key op)) (is (key_of key op))) r (ap (after op) (sym was) ∙ some) in
             rw in_range (rw e (
-            filter-append (λ r. key r == j) (list_of v) (but key (key_of key op) all)
-            ∙ ap (λ w. w ++ with_key key j (but key (key_of key op) all)) (at_other j (key_of key op) off v keyed)
-            ∙ at_but_other j (key_of key op) off all ∙ is j))
+            filter-append (λ r. key r == j) (list_of v) (except key (key_of key op) all)
+            ∙ ap (λ w. w ++ with_key key j (except key (key_of key op) all)) (at_other j (key_of key op) off v keyed)
+            ∙ at_except_other j (key_of key op) off all ∙ is j))
         by_tests (inl in_range) (inl same) =
             let e : (j == key_of key op) ≡ true = eq-eqb j (key_of key op) same in
             let v = after op (first (with_key key (key_of key op) all)) in
             let was : first (with_key key (key_of key op) all) ≡ m (key_of key op) = ap first (is (key_of key op)) ∙ first-list_of (m (key_of key op)) in
             let keyed : (r : R) → v ≡ Some r → key r ≡ key_of key op = λ r some. keyed_after op keeps (m (key_of key op)) (keyed_row (key_of key op) all (m (key_of key op)) (is (key_of key op))) r (ap (after op) (sym was) ∙ some) in
             rw in_range (rw e (
-            ap (λ i. with_key key i (list_of v ++ but key (key_of key op) all)) same
-            ∙ filter-append (λ r. key r == key_of key op) (list_of v) (but key (key_of key op) all)
-            ∙ ap (λ w. w ++ with_key key (key_of key op) (but key (key_of key op) all)) (at_keyed (key_of key op) v keyed)
-            ∙ ap (λ w. list_of v ++ w) (at_but_same (key_of key op) all)
+            ap (λ i. with_key key i (list_of v ++ except key (key_of key op) all)) same
+            ∙ filter-append (λ r. key r == key_of key op) (list_of v) (except key (key_of key op) all)
+            ∙ ap (λ w. w ++ with_key key (key_of key op) (except key (key_of key op) all)) (at_keyed (key_of key op) v keyed)
+            ∙ ap (λ w. list_of v ++ w) (at_except_same (key_of key op) all)
             ∙ append-nil (list_of v)
             ∙ ap (λ o. list_of (after op o)) (was ∙ ap m (sym same))))
 
@@ -112,14 +112,14 @@ module _ {R : Type 0} (key : R → ℕ) where
             let none : with_key key k aside ≡ [] = off in_range in
             let now = list_of (after op (first (with_key key k all))) in
             let same_at : with_key key k (aside ++ all) ≡ with_key key k all = filter-append (λ r. key r == k) aside all ∙ ap (λ w. w ++ with_key key k all) none in
-            let others : Same aside (but key k aside) = Same-sym (but key k aside) aside (subst (λ w. Same (w ++ but key k aside) aside) none (Same-parts k aside)) in
-            let moved : Same (aside ++ (now ++ but key k all)) (now ++ (but key k aside ++ but key k all)) =
-            Same-trans (aside ++ (now ++ but key k all)) ((aside ++ now) ++ but key k all) (now ++ (but key k aside ++ but key k all)) (Same-is _ _ (sym (append_assoc aside now (but key k all))))
-            (Same-trans ((aside ++ now) ++ but key k all) ((now ++ but key k aside) ++ but key k all) (now ++ (but key k aside ++ but key k all))
-            (Same-left (aside ++ now) (now ++ but key k aside) (but key k all) (Same-trans (aside ++ now) (now ++ aside) (now ++ but key k aside) (Same-swapped aside now) (Same-right now aside (but key k aside) others)))
-            (Same-is _ _ (append_assoc now (but key k aside) (but key k all)))) in
-            rw in_range (Same-trans (aside ++ (now ++ but key k all)) (now ++ (but key k aside ++ but key k all)) (list_of (after op (first (with_key key k (aside ++ all)))) ++ but key k (aside ++ all)) moved
-            (Same-is _ _ (ap (λ w. now ++ w) (sym (filter-append (λ r. not (key r == k)) aside all)) ∙ ap (λ w. list_of (after op (first w)) ++ but key k (aside ++ all)) (sym same_at))))
+            let others : Same aside (except key k aside) = Same-sym (except key k aside) aside (subst (λ w. Same (w ++ except key k aside) aside) none (Same-parts k aside)) in
+            let moved : Same (aside ++ (now ++ except key k all)) (now ++ (except key k aside ++ except key k all)) =
+            Same-trans (aside ++ (now ++ except key k all)) ((aside ++ now) ++ except key k all) (now ++ (except key k aside ++ except key k all)) (Same-is _ _ (sym (append_assoc aside now (except key k all))))
+            (Same-trans ((aside ++ now) ++ except key k all) ((now ++ except key k aside) ++ except key k all) (now ++ (except key k aside ++ except key k all))
+            (Same-left (aside ++ now) (now ++ except key k aside) (except key k all) (Same-trans (aside ++ now) (now ++ aside) (now ++ except key k aside) (Same-swapped aside now) (Same-right now aside (except key k aside) others)))
+            (Same-is _ _ (append_assoc now (except key k aside) (except key k all)))) in
+            rw in_range (Same-trans (aside ++ (now ++ except key k all)) (now ++ (except key k aside ++ except key k all)) (list_of (after op (first (with_key key k (aside ++ all)))) ++ except key k (aside ++ all)) moved
+            (Same-is _ _ (ap (λ w. now ++ w) (sym (filter-append (λ r. not (key r == k)) aside all)) ∙ ap (λ w. list_of (after op (first w)) ++ except key k (aside ++ all)) (sym same_at))))
 
     -- and rows of one bag go the same way
     pub applied_same : (xs ys : List R) (o : Option R) → with_key key (key_of key op) xs ≡ list_of o → Same xs ys → Same (applied key n op xs) (applied key n op ys)
@@ -131,5 +131,5 @@ module _ {R : Type 0} (key : R → ℕ) where
             let k = key_of key op in
             let back : Same (with_key key k ys) (with_key key k xs) = Same-filter (λ r. key r == k) ys xs (Same-sym xs ys same) in
             let also : with_key key k ys ≡ list_of o = Same-one (with_key key k ys) o (subst (λ w. Same (with_key key k ys) w) is back) in
-            rw in_range (Same-append (list_of (after op (first (with_key key k xs)))) (list_of (after op (first (with_key key k ys)))) (but key k xs) (but key k ys)
+            rw in_range (Same-append (list_of (after op (first (with_key key k xs)))) (list_of (after op (first (with_key key k ys)))) (except key k xs) (except key k ys)
             (Same-is _ _ (ap (λ w. list_of (after op (first w))) (is ∙ sym also))) (Same-filter (λ r. not (key r == k)) xs ys same))

@@ -1,4 +1,4 @@
--- What lies in the tree and in the stash behind an access, where the slots of a buffer were written to them.
+-- What lies in the tree and in the stash after an access, where the slots of a buffer were written to them.
 use Rattle.std.proofs.Common.{◌≡◌, ◌≤◌, ◌<◌, ℕ, zero, suc, ◌-◌, ◌+◌, ◌*◌, ◌/◌, ◌%◌, ◌^◌, Bool, true, false, ◌⊎◌, ◌==◌, inl, inr, List, [], ◌∷◌, Option, Some, None, length, take, drop, get_or, refl, sym, ap, ◌∙◌, subst, arith, length-append}
 use Rattle.std.specs.List.{list_any, All}
 use Rattle.std.proofs.lemmas.Bool.{eq-eqb, ne_eqb, cases_eq, cases_lt, le-leb, both_ways}

@@ -5,7 +5,7 @@ use Rattle.std.specs.List.{All}
 use Rattle.std.proofs.lemmas.Bool.{eq-eqb, cases_Bool, leb-true, leb-false}
 use Rattle.std.proofs.lemmas.List.Elements.{All-head, All-tail, All-cons, All-nil}
 use Rattle.ob_row.specs.Bags.{Inserts, here, further, Same}
-use Rattle.ob_path.specs.Rows.{with_key, put, by_key, firsts, but_firsts, Single}
+use Rattle.ob_path.specs.Rows.{with_key, put, by_key, firsts, except_firsts, Single}
 use Rattle.ob_row.proofs.BagLemmas.{Same-refl, Same-filter, Same-put_in}
 use Rattle.ob_tree.proofs.RowLemmas.{Same-by_key}
 
@@ -90,24 +90,24 @@ module _ {R : Type 0} (key : R → ℕ) where
       ∙ sym (by_key-Inserts x ys s.1 (Single-Same (x ∷ xs) ys s single))
 
   -- the least row that passes is the first of a list into which it is put
-  put_first : (p : R → Bool) (r : R) (all : List R) → p r ≡ true → All (λ x. p x ≡ true → key r ≤ key x) all → (firsts 1 p (put key r all) ≡ r ∷ []) × (but_firsts 1 p (put key r all) ≡ all)
+  put_first : (p : R → Bool) (r : R) (all : List R) → p r ≡ true → All (λ x. p x ≡ true → key r ≤ key x) all → (firsts 1 p (put key r all) ≡ r ∷ []) × (except_firsts 1 p (put key r all) ≡ all)
   put_first p r [] passes each = (rw passes refl, rw passes refl)
   put_first p r (x ∷ all) passes each = by_tests (put_first p r all passes (All-tail (λ x. p x ≡ true → key r ≤ key x) x all each)) (cases_Bool (nat_le (key r) (key x))) (cases_Bool (p x))
     where
-      by_tests : ((firsts 1 p (put key r all) ≡ r ∷ []) × (but_firsts 1 p (put key r all) ≡ all)) → ((nat_le (key r) (key x) ≡ true) ⊎ (nat_le (key r) (key x) ≡ false)) → ((p x ≡ true) ⊎ (p x ≡ false))
-          → (firsts 1 p (put key r (x ∷ all)) ≡ r ∷ []) × (but_firsts 1 p (put key r (x ∷ all)) ≡ x ∷ all)
+      by_tests : ((firsts 1 p (put key r all) ≡ r ∷ []) × (except_firsts 1 p (put key r all) ≡ all)) → ((nat_le (key r) (key x) ≡ true) ⊎ (nat_le (key r) (key x) ≡ false)) → ((p x ≡ true) ⊎ (p x ≡ false))
+          → (firsts 1 p (put key r (x ∷ all)) ≡ r ∷ []) × (except_firsts 1 p (put key r (x ∷ all)) ≡ x ∷ all)
       by_tests rest (inl before) px = (rw before (rw passes refl), rw before (rw passes refl))
       by_tests rest (inr behind) (inl px) = absurd (omega (arith, leb-false (key r) (key x) behind, All-head (λ x. p x ≡ true → key r ≤ key x) x all each px))
       by_tests rest (inr behind) (inr px) = (rw behind (rw px rest.0), rw behind (rw px (ap (λ w. x ∷ w) rest.1)))
 
   pub least_first : (p : R → Bool) (r : R) (rest all : List R) → Single key all → Same all (r ∷ rest) → p r ≡ true → All (λ x. p x ≡ true → key r ≤ key x) rest
-      → (firsts 1 p (by_key key all) ≡ r ∷ []) × (but_firsts 1 p (by_key key all) ≡ by_key key rest)
+      → (firsts 1 p (by_key key all) ≡ r ∷ []) × (except_firsts 1 p (by_key key all) ≡ by_key key rest)
   least_first p r rest all single s passes each =
-      subst (λ w. (firsts 1 p w ≡ r ∷ []) × (but_firsts 1 p w ≡ by_key key rest)) (sym (by_key-Same all (r ∷ rest) single s))
+      subst (λ w. (firsts 1 p w ≡ r ∷ []) × (except_firsts 1 p w ≡ by_key key rest)) (sym (by_key-Same all (r ∷ rest) single s))
       (put_first p r (by_key key rest) passes (All-Same (λ x. p x ≡ true → key r ≤ key x) (by_key key rest) rest (Same-by_key key rest) each))
 
 module _ {R : Type 0} (p : R → Bool) where
-  none_passes : (n : ℕ) (all : List R) → All (λ r. p r ≡ false) all → (firsts n p all ≡ []) × (but_firsts n p all ≡ all)
+  none_passes : (n : ℕ) (all : List R) → All (λ r. p r ≡ false) all → (firsts n p all ≡ []) × (except_firsts n p all ≡ all)
   none_passes zero all each = (refl, refl)
   none_passes (suc n) [] each = (refl, refl)
   none_passes (suc n) (r ∷ all) each =
@@ -115,20 +115,20 @@ module _ {R : Type 0} (p : R → Bool) where
       let rest = none_passes (suc n) all (All-tail (λ r. p r ≡ false) r all each) in
       (rw not_so rest.0, rw not_so (ap (λ w. r ∷ w) rest.1))
 
-  pub none_first : (key : R → ℕ) (n : ℕ) (all : List R) → All (λ r. p r ≡ false) all → (firsts n p (by_key key all) ≡ []) × (but_firsts n p (by_key key all) ≡ by_key key all)
+  pub none_first : (key : R → ℕ) (n : ℕ) (all : List R) → All (λ r. p r ≡ false) all → (firsts n p (by_key key all) ≡ []) × (except_firsts n p (by_key key all) ≡ by_key key all)
   none_first key n all each = none_passes n (by_key key all) (All-Same (λ r. p r ≡ false) (by_key key all) all (Same-by_key key all) each)
 
   -- one row, and then the others
-  pub one_by_one : (n : ℕ) (all : List R) → (firsts (suc n) p all ≡ firsts 1 p all ++ firsts n p (but_firsts 1 p all)) × (but_firsts (suc n) p all ≡ but_firsts n p (but_firsts 1 p all))
+  pub one_by_one : (n : ℕ) (all : List R) → (firsts (suc n) p all ≡ firsts 1 p all ++ firsts n p (except_firsts 1 p all)) × (except_firsts (suc n) p all ≡ except_firsts n p (except_firsts 1 p all))
   one_by_one zero [] = (refl, refl)
   one_by_one (suc n) [] = (refl, refl)
   one_by_one n (r ∷ all) = by_test (one_by_one n all) (cases_Bool (p r))
     where
-      by_test : ((firsts (suc n) p all ≡ firsts 1 p all ++ firsts n p (but_firsts 1 p all)) × (but_firsts (suc n) p all ≡ but_firsts n p (but_firsts 1 p all))) → ((p r ≡ true) ⊎ (p r ≡ false))
-          → (firsts (suc n) p (r ∷ all) ≡ firsts 1 p (r ∷ all) ++ firsts n p (but_firsts 1 p (r ∷ all))) × (but_firsts (suc n) p (r ∷ all) ≡ but_firsts n p (but_firsts 1 p (r ∷ all)))
+      by_test : ((firsts (suc n) p all ≡ firsts 1 p all ++ firsts n p (except_firsts 1 p all)) × (except_firsts (suc n) p all ≡ except_firsts n p (except_firsts 1 p all))) → ((p r ≡ true) ⊎ (p r ≡ false))
+          → (firsts (suc n) p (r ∷ all) ≡ firsts 1 p (r ∷ all) ++ firsts n p (except_firsts 1 p (r ∷ all))) × (except_firsts (suc n) p (r ∷ all) ≡ except_firsts n p (except_firsts 1 p (r ∷ all)))
       by_test rest (inl passes) = (rw passes refl, rw passes refl)
       by_test rest (inr fails) = (rw fails (rw fails rest.0), rw fails (by_count n rest.1))
         where
-          by_count : (n : ℕ) → but_firsts (suc n) p all ≡ but_firsts n p (but_firsts 1 p all) → r ∷ but_firsts (suc n) p all ≡ but_firsts n p (r ∷ but_firsts 1 p all)
+          by_count : (n : ℕ) → except_firsts (suc n) p all ≡ except_firsts n p (except_firsts 1 p all) → r ∷ except_firsts (suc n) p all ≡ except_firsts n p (r ∷ except_firsts 1 p all)
           by_count zero e = refl
           by_count (suc k) e = rw fails (ap (λ w. r ∷ w) e)

@@ -1,4 +1,4 @@
--- The slots of a tree behind an eviction, and bags told by their keys.
+-- The slots of a tree after an eviction, and bags told by their keys.
 use Rattle.std.proofs.Common.{◌≡◌, ◌≤◌, ◌<◌, ℕ, zero, suc, ◌-◌, ◌+◌, ◌*◌, ◌/◌, ◌^◌, Bool, true, false, cond, ◌==◌, ◌⊎◌, inl, inr, List, [], ◌∷◌, ◌++◌, Option, Some, None, length, take, drop, get_or, refl, sym, ap, ◌∙◌, subst, arith, append_assoc}
 use Rattle.std.specs.List.{list_any, All}
 use Rattle.std.proofs.lemmas.List.Elements.{All-nil, All-cons, All-head, All-tail}
@@ -6,7 +6,7 @@ use Rattle.std.proofs.lemmas.Bool.{eqb-true, eqb-false, ne_eqb, eq-eqb, or_parts
 use Rattle.std.proofs.lemmas.List.{length-take-le, drop-drop, drop_at, take_at}
 use Rattle.ob_row.specs.Bags.{Inserts, here, further, Same}
 use Rattle.ob_path.specs.Paths.{path_up}
-use Rattle.ob_path.specs.Rows.{with_key, list_of, first, slots_of, firsts, but_firsts, Single}
+use Rattle.ob_path.specs.Rows.{with_key, list_of, first, slots_of, firsts, except_firsts, Single}
 use Rattle.ob_path.specs.States.{State, Represents, Stands, map_of, held, bucket, with_bucket}
 use Rattle.ob_path.specs.Access.{Evicted, fill, evict}
 use Rattle.ob_tree.specs.Slotwise.{laid}
@@ -161,7 +161,7 @@ module _ {R : Type 0} (fits : ℕ → R → Bool) (t : ℕ) where
   -- each four slots of a buffer are a bucket's
   laid_bucket : (bs : List ℕ) (e : Evicted R) (j : ℕ) → j < length bs → bucket (laid fits bs t e.left) j ≡ slots_of 4 (firsts 4 (fits (get_or bs j 0)) (evict fits (take j bs) e).left)
   laid_bucket [] e j within = absurd (omega (arith, within))
-  laid_bucket (b ∷ bs) e zero within = take_at (slots_of 4 (firsts 4 (fits b) e.left)) (laid fits bs t (but_firsts 4 (fits b) e.left)) 4 (four_slots fits b e.left)
+  laid_bucket (b ∷ bs) e zero within = take_at (slots_of 4 (firsts 4 (fits b) e.left)) (laid fits bs t (except_firsts 4 (fits b) e.left)) 4 (four_slots fits b e.left)
   laid_bucket (b ∷ bs) e (suc j) within =
       let more : 4 * suc j ≡ 4 + 4 * j = omega arith in
       ap (λ k. take 4 (drop k (laid fits (b ∷ bs) t e.left))) more ∙ ap (take 4) (behind_four b bs e (4 * j)) ∙ laid_bucket bs (fill fits b e) j (omega (arith, within))

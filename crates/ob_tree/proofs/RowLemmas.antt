@@ -4,7 +4,7 @@ use Rattle.std.specs.Prelude.{filter, nat_le}
 use Rattle.std.proofs.lemmas.List.{length-replicate, length-map, length-take, append-nil}
 use Rattle.std.proofs.lemmas.List.Elements.{filter_map-append}
 use Rattle.ob_row.specs.Bags.{Same}
-use Rattle.ob_path.specs.Rows.{rows, slots_of, put, by_key, firsts, but_firsts}
+use Rattle.ob_path.specs.Rows.{rows, slots_of, put, by_key, firsts, except_firsts}
 use Rattle.ob_row.proofs.BagLemmas.{Same-refl, Same-trans}
 use Rattle.ob_tree.proofs.Moves.{Same-cons, Same-middle}
 
@@ -33,14 +33,14 @@ pub length-firsts : {R : Type 0} (n : ℕ) (p : R → Bool) (all : List R) → l
 length-firsts n p all = omega (arith, length-take n (filter p all))
 
 split_firsts : {R : Type 0} (n : ℕ) (p : R → Bool) (r : R) (all : List R) (b : Bool)
-    → Same (firsts n p all ++ but_firsts n p all) all → Same (firsts (suc n) p all ++ but_firsts (suc n) p all) all
-    → Same (take (suc n) (cond b (r ∷ filter p all) (filter p all)) ++ cond b (but_firsts n p all) (r ∷ but_firsts (suc n) p all)) (r ∷ all)
-split_firsts n p r all true fewer same = Same-cons r (firsts n p all ++ but_firsts n p all) all fewer
+    → Same (firsts n p all ++ except_firsts n p all) all → Same (firsts (suc n) p all ++ except_firsts (suc n) p all) all
+    → Same (take (suc n) (cond b (r ∷ filter p all) (filter p all)) ++ cond b (except_firsts n p all) (r ∷ except_firsts (suc n) p all)) (r ∷ all)
+split_firsts n p r all true fewer same = Same-cons r (firsts n p all ++ except_firsts n p all) all fewer
 split_firsts n p r all false fewer same =
-    Same-trans (firsts (suc n) p all ++ r ∷ but_firsts (suc n) p all) (r ∷ (firsts (suc n) p all ++ but_firsts (suc n) p all)) (r ∷ all)
-    (Same-middle r (firsts (suc n) p all) (but_firsts (suc n) p all)) (Same-cons r _ all same)
+    Same-trans (firsts (suc n) p all ++ r ∷ except_firsts (suc n) p all) (r ∷ (firsts (suc n) p all ++ except_firsts (suc n) p all)) (r ∷ all)
+    (Same-middle r (firsts (suc n) p all) (except_firsts (suc n) p all)) (Same-cons r _ all same)
 
-pub Same-firsts : {R : Type 0} (n : ℕ) (p : R → Bool) (all : List R) → Same (firsts n p all ++ but_firsts n p all) all
+pub Same-firsts : {R : Type 0} (n : ℕ) (p : R → Bool) (all : List R) → Same (firsts n p all ++ except_firsts n p all) all
 Same-firsts zero p all = Same-refl all
 Same-firsts (suc n) p [] = refl
 Same-firsts (suc n) p (r ∷ all) = split_firsts n p r all (p r) (Same-firsts n p all) (Same-firsts (suc n) p all)

@@ -3,7 +3,7 @@ use Rattle.std.proofs.Common.{◌≡◌, ◌≤◌, ◌<◌, ℕ, zero, suc, tru
 use Rattle.std.specs.Prelude.{not}
 use Rattle.std.proofs.lemmas.Bool.{eq-eqb, ne_eqb, lt-ltb, le-ltb}
 use Rattle.ob_row.specs.Bags.{Same}
-use Rattle.ob_path.specs.Rows.{rows, with_key, but, list_of, first, Single}
+use Rattle.ob_path.specs.Rows.{rows, with_key, except, list_of, first, Single}
 use Rattle.ob_path.specs.Access.{Op, key_of, after, applied, got, answer, OutOfRange}
 use Rattle.ob_row.proofs.BagLemmas.{Same-refl, Same-trans, Same-sym, Same-filter}
 use Rattle.ob_tree.proofs.Moves.{Same-is, Same-cons, Same-one, Same-middle, Same-right}
@@ -60,20 +60,20 @@ module _ {R : Type 0} (key : R → ℕ) (n : ℕ) (op : Op R) (slots : List (Opt
     one_row : with_key key (key_of key op) (rows slots) ≡ row ∷ []
     one_row = Same-one (with_key key (key_of key op) (rows slots)) (Some row) (subst (λ l. Same (with_key key (key_of key op) (rows slots)) (row ∷ l)) none_else keyed)
 
-    others : Same rest (but key (key_of key op) (rows slots))
+    others : Same rest (except key (key_of key op) (rows slots))
     others =
-        let off : but key (key_of key op) (row ∷ rest) ≡ but key (key_of key op) rest = rw itself refl in
-        Same-sym (but key (key_of key op) (rows slots)) rest
-        (Same-trans (but key (key_of key op) (rows slots)) (but key (key_of key op) (row ∷ rest)) rest
+        let off : except key (key_of key op) (row ∷ rest) ≡ except key (key_of key op) rest = rw itself refl in
+        Same-sym (except key (key_of key op) (rows slots)) rest
+        (Same-trans (except key (key_of key op) (rows slots)) (except key (key_of key op) (row ∷ rest)) rest
         (Same-filter (λ r. not (key r == key_of key op)) (rows slots) (row ∷ rest) (rows-set_none slots i row here))
-        (Same-trans (but key (key_of key op) (row ∷ rest)) (but key (key_of key op) rest) rest (Same-is _ _ off)
-        (subst (λ l. Same (l ++ but key (key_of key op) rest) rest) none_else (Same-parts key (key_of key op) rest))))
+        (Same-trans (except key (key_of key op) (row ∷ rest)) (except key (key_of key op) rest) rest (Same-is _ _ off)
+        (subst (λ l. Same (l ++ except key (key_of key op) rest) rest) none_else (Same-parts key (key_of key op) rest))))
 
     pub applied_found : key_of key op < n → Same (list_of (after op (Some row)) ++ rows (set slots i None)) (applied key n op (rows slots))
     applied_found within =
         let test = lt-ltb (key_of key op) n within in
-        rw test (subst (λ o. Same (list_of (after op (Some row)) ++ rest) (list_of (after op o) ++ but key (key_of key op) (rows slots))) (sym (ap first one_row))
-        (Same-right (list_of (after op (Some row))) rest (but key (key_of key op) (rows slots)) others))
+        rw test (subst (λ o. Same (list_of (after op (Some row)) ++ rest) (list_of (after op o) ++ except key (key_of key op) (rows slots))) (sym (ap first one_row))
+        (Same-right (list_of (after op (Some row))) rest (except key (key_of key op) (rows slots)) others))
 
     pub answer_found : key_of key op < n → answer n (key_of key op) op (first (with_key key (key_of key op) (rows slots))) ≡ got op (Some row)
     answer_found within =
@@ -88,9 +88,9 @@ module _ {R : Type 0} (key : R → ℕ) (n : ℕ) (op : Op R) (slots : List (Opt
     pub applied_absent : key_of key op < n → Same (list_of (after op None) ++ rows slots) (applied key n op (rows slots))
     applied_absent within =
         let test = lt-ltb (key_of key op) n within in
-        rw test (subst (λ o. Same (list_of (after op None) ++ rows slots) (list_of (after op o) ++ but key (key_of key op) (rows slots))) (sym (ap first no_row))
-        (Same-right (list_of (after op None)) (rows slots) (but key (key_of key op) (rows slots))
-        (Same-sym (but key (key_of key op) (rows slots)) (rows slots) (subst (λ l. Same (l ++ but key (key_of key op) (rows slots)) (rows slots)) no_row (Same-parts key (key_of key op) (rows slots))))))
+        rw test (subst (λ o. Same (list_of (after op None) ++ rows slots) (list_of (after op o) ++ except key (key_of key op) (rows slots))) (sym (ap first no_row))
+        (Same-right (list_of (after op None)) (rows slots) (except key (key_of key op) (rows slots))
+        (Same-sym (except key (key_of key op) (rows slots)) (rows slots) (subst (λ l. Same (l ++ except key (key_of key op) (rows slots)) (rows slots)) no_row (Same-parts key (key_of key op) (rows slots))))))
 
     pub answer_absent : key_of key op < n → answer n (key_of key op) op (first (with_key key (key_of key op) (rows slots))) ≡ got op None
     answer_absent within =

@@ -3,31 +3,31 @@ use Rattle.std.proofs.Common.{◌≡◌, ◌≤◌, ℕ, zero, suc, ◌-◌, Boo
 use Rattle.std.specs.Prelude.{filter}
 use Rattle.std.proofs.lemmas.Bool.{cases_Bool}
 use Rattle.std.proofs.lemmas.List.{append-nil}
-use Rattle.ob_path.specs.Rows.{slots_of, firsts, but_firsts, first}
+use Rattle.ob_path.specs.Rows.{slots_of, firsts, except_firsts, first}
 use Rattle.ob_path.specs.Access.{Evicted, fill, evict}
 use Rattle.ob_tree.specs.Slotwise.{laid, slot_tests, laid_slots, left_behind}
 use Rattle.ob_tree.proofs.OrderLemmas.{one_by_one}
 
 -- one row is the first that passes, or none passes
-pub one_or_none : {R : Type 0} (p : R → Bool) (all : List R) → ((r : R) × (firsts 1 p all ≡ r ∷ [])) ⊎ ((firsts 1 p all ≡ []) × ((n : ℕ) → firsts n p all ≡ []) × ((n : ℕ) → but_firsts n p all ≡ all))
-one_or_none p [] = inr (refl, none, none_but)
+pub one_or_none : {R : Type 0} (p : R → Bool) (all : List R) → ((r : R) × (firsts 1 p all ≡ r ∷ [])) ⊎ ((firsts 1 p all ≡ []) × ((n : ℕ) → firsts n p all ≡ []) × ((n : ℕ) → except_firsts n p all ≡ all))
+one_or_none p [] = inr (refl, none, none_except)
   where
     none : (n : ℕ) → firsts n p [] ≡ []
     none zero = refl
     none (suc n) = refl
 
-    none_but : (n : ℕ) → but_firsts n p [] ≡ []
-    none_but zero = refl
-    none_but (suc n) = refl
+    none_except : (n : ℕ) → except_firsts n p [] ≡ []
+    none_except zero = refl
+    none_except (suc n) = refl
 one_or_none {R} p (r ∷ all) = by_test (one_or_none p all) (cases_Bool (p r))
   where
-    by_test : (((x : R) × (firsts 1 p all ≡ x ∷ [])) ⊎ ((firsts 1 p all ≡ []) × ((n : ℕ) → firsts n p all ≡ []) × ((n : ℕ) → but_firsts n p all ≡ all))) → ((p r ≡ true) ⊎ (p r ≡ false))
-        → (((x : R) × (firsts 1 p (r ∷ all) ≡ x ∷ [])) ⊎ ((firsts 1 p (r ∷ all) ≡ []) × ((n : ℕ) → firsts n p (r ∷ all) ≡ []) × ((n : ℕ) → but_firsts n p (r ∷ all) ≡ r ∷ all)))
+    by_test : (((x : R) × (firsts 1 p all ≡ x ∷ [])) ⊎ ((firsts 1 p all ≡ []) × ((n : ℕ) → firsts n p all ≡ []) × ((n : ℕ) → except_firsts n p all ≡ all))) → ((p r ≡ true) ⊎ (p r ≡ false))
+        → (((x : R) × (firsts 1 p (r ∷ all) ≡ x ∷ [])) ⊎ ((firsts 1 p (r ∷ all) ≡ []) × ((n : ℕ) → firsts n p (r ∷ all) ≡ []) × ((n : ℕ) → except_firsts n p (r ∷ all) ≡ r ∷ all)))
     by_test rest (inl passes) = inl (r, (rw passes refl))
     by_test (inl found) (inr fails) = inl (found.0, (rw fails found.1))
     by_test (inr none) (inr fails) = inr ((rw fails none.0), (λ n. rw fails (none.1 n)), others)
       where
-        others : (n : ℕ) → but_firsts n p (r ∷ all) ≡ r ∷ all
+        others : (n : ℕ) → except_firsts n p (r ∷ all) ≡ r ∷ all
         others zero = refl
         others (suc n) = rw fails (ap (λ w. r ∷ w) (none.2 (suc n)))
 
@@ -35,28 +35,28 @@ slots_none : {R : Type 0} (n : ℕ) → slots_of {R = R} n [] ≡ replicate n No
 slots_none n = let all : n - 0 ≡ n = omega arith in ap (λ k. replicate k None) all
 
 -- a bucket's next slot
-slots_next : {R : Type 0} (n : ℕ) (p : R → Bool) (all : List R) → slots_of (suc n) (firsts (suc n) p all) ≡ first (firsts 1 p all) ∷ slots_of n (firsts n p (but_firsts 1 p all))
+slots_next : {R : Type 0} (n : ℕ) (p : R → Bool) (all : List R) → slots_of (suc n) (firsts (suc n) p all) ≡ first (firsts 1 p all) ∷ slots_of n (firsts n p (except_firsts 1 p all))
 slots_next {R} n p all = by_first (one_or_none p all)
   where
-    by_first : (((r : R) × (firsts 1 p all ≡ r ∷ [])) ⊎ ((firsts 1 p all ≡ []) × ((n : ℕ) → firsts n p all ≡ []) × ((n : ℕ) → but_firsts n p all ≡ all))) → slots_of (suc n) (firsts (suc n) p all) ≡ first (firsts 1 p all) ∷ slots_of n (firsts n p (but_firsts 1 p all))
+    by_first : (((r : R) × (firsts 1 p all ≡ r ∷ [])) ⊎ ((firsts 1 p all ≡ []) × ((n : ℕ) → firsts n p all ≡ []) × ((n : ℕ) → except_firsts n p all ≡ all))) → slots_of (suc n) (firsts (suc n) p all) ≡ first (firsts 1 p all) ∷ slots_of n (firsts n p (except_firsts 1 p all))
     by_first (inl found) =
-        let rest = firsts n p (but_firsts 1 p all) in
+        let rest = firsts n p (except_firsts 1 p all) in
         let whole : firsts (suc n) p all ≡ found.0 ∷ rest = (one_by_one p n all).0 ∙ ap (λ w. w ++ rest) found.1 in
         let fewer : suc n - suc (length rest) ≡ n - length rest = omega arith in
         ap (slots_of (suc n)) whole ∙ ap (λ k. Some found.0 ∷ (map (λ row. Some row) rest ++ replicate k None)) fewer ∙ ap (λ w. first w ∷ slots_of n rest) (sym found.1)
     by_first (inr none) =
-        let rest : firsts n p (but_firsts 1 p all) ≡ [] = ap (firsts n p) (none.2 1) ∙ none.1 n in
-        ap (slots_of (suc n)) (none.1 (suc n)) ∙ slots_none (suc n) ∙ ap (λ w. None ∷ w) (sym (slots_none n)) ∙ ap (λ w. None ∷ slots_of n w) (sym rest) ∙ ap (λ w. first w ∷ slots_of n (firsts n p (but_firsts 1 p all))) (sym none.0)
+        let rest : firsts n p (except_firsts 1 p all) ≡ [] = ap (firsts n p) (none.2 1) ∙ none.1 n in
+        ap (slots_of (suc n)) (none.1 (suc n)) ∙ slots_none (suc n) ∙ ap (λ w. None ∷ w) (sym (slots_none n)) ∙ ap (λ w. None ∷ slots_of n w) (sym rest) ∙ ap (λ w. first w ∷ slots_of n (firsts n p (except_firsts 1 p all))) (sym none.0)
 
 -- all its slots
 bucket_slots : {R : Type 0} (n : ℕ) (p : R → Bool) (ps : List (R → Bool)) (all : List R)
-    → (laid_slots (replicate n p ++ ps) all ≡ slots_of n (firsts n p all) ++ laid_slots ps (but_firsts n p all)) × (left_behind (replicate n p ++ ps) all ≡ left_behind ps (but_firsts n p all))
+    → (laid_slots (replicate n p ++ ps) all ≡ slots_of n (firsts n p all) ++ laid_slots ps (except_firsts n p all)) × (left_behind (replicate n p ++ ps) all ≡ left_behind ps (except_firsts n p all))
 bucket_slots zero p ps all = (refl, refl)
 bucket_slots (suc n) p ps all =
-    let rest = bucket_slots n p ps (but_firsts 1 p all) in
+    let rest = bucket_slots n p ps (except_firsts 1 p all) in
     let more = one_by_one p n all in (
-      ap (λ w. first (firsts 1 p all) ∷ w) rest.0 ∙ ap (λ w. (first (firsts 1 p all) ∷ slots_of n (firsts n p (but_firsts 1 p all))) ++ laid_slots ps w) (sym more.1)
-          ∙ ap (λ w. w ++ laid_slots ps (but_firsts (suc n) p all)) (sym (slots_next n p all)),
+      ap (λ w. first (firsts 1 p all) ∷ w) rest.0 ∙ ap (λ w. (first (firsts 1 p all) ∷ slots_of n (firsts n p (except_firsts 1 p all))) ++ laid_slots ps w) (sym more.1)
+          ∙ ap (λ w. w ++ laid_slots ps (except_firsts (suc n) p all)) (sym (slots_next n p all)),
       rest.1 ∙ ap (left_behind ps) (sym more.1),
     )
 
@@ -70,7 +70,7 @@ take_whole zero (r ∷ all) h = absurd (omega (arith, h))
 take_whole (suc n) [] h = refl
 take_whole (suc n) (r ∷ all) h = ap (λ w. r ∷ w) (take_whole n all (omega (arith, h)))
 
-none_behind : {R : Type 0} (n : ℕ) (all : List R) → length (but_firsts n (λ row. true) all) ≡ length all - n
+none_behind : {R : Type 0} (n : ℕ) (all : List R) → length (except_firsts n (λ row. true) all) ≡ length all - n
 none_behind zero all = omega arith
 none_behind (suc n) [] = omega arith
 none_behind (suc n) (r ∷ all) = none_behind n all ∙ omega arith

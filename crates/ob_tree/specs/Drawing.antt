@@ -4,7 +4,7 @@ use Rattle.std.specs.Prelude.{ℕ, ◌+◌, List, [], ◌∷◌, ◌++◌, slice
 use Rattle.ob_tree.specs.Scripts.{numbers}
 
 pub data Event : Type 0 where
-  -- an index of so many keys was made, each of which takes a draw; or its making failed behind its draws
+  -- an index of so many keys was made, each of which takes a draw; or its making failed after its draws
   Made : ℕ → Event
   Failed : ℕ → Event
   -- a key was accessed, which is none of the keys where its number is past all of them; it takes a draw

@@ -1,6 +1,6 @@
 -- Which rows may lie in which slots of a buffer, where each row has a key and a leaf.
 use Rattle.std.specs.Prelude.{◌≡◌, ◌<◌, ◌≤◌, ℕ, zero, suc, ◌+◌, ◌-◌, ◌/◌, ◌^◌, min, Bool, true, false, ◌==◌, List, [], ◌∷◌, Option, Some, None, length, take, drop, slice_index_or}
-use Rattle.ob_path.specs.Rows.{rows, by_key, firsts, but_firsts, first, Single}
+use Rattle.ob_path.specs.Rows.{rows, by_key, firsts, except_firsts, first, Single}
 
 -- whether its path and that of a leaf have one bucket at a height above the leaves
 abbrev pub lies_at : {R : Type 0} → (R → ℕ) → ℕ → ℕ → R → Bool
@@ -35,10 +35,10 @@ pub record StepDone {R : Type 0} (key lf : R → ℕ) (leaf height i : ℕ) (old
   pub size : length new ≡ length old
   pub front : take i new ≡ take i old
   pub slot : slice_index_or new i None ≡ first (firsts 1 (lies_at lf leaf height) (by_key key (rows (drop i old))))
-  pub left : by_key key (rows (drop (i + 1) new)) ≡ but_firsts 1 (lies_at lf leaf height) (by_key key (rows (drop i old)))
+  pub left : by_key key (rows (drop (i + 1) new)) ≡ except_firsts 1 (lies_at lf leaf height) (by_key key (rows (drop i old)))
   pub single : Single key (rows (drop (i + 1) new))
 
 -- no row may lie there, and no slot is empty
 pub record StepFull {R : Type 0} (key lf : R → ℕ) (leaf height i : ℕ) (old : List (Option R)) : Type 0 where
-  pub left : but_firsts 1 (lies_at lf leaf height) (by_key key (rows (drop i old))) ≡ by_key key (rows (drop i old))
+  pub left : except_firsts 1 (lies_at lf leaf height) (by_key key (rows (drop i old))) ≡ by_key key (rows (drop i old))
   pub count : length (rows (drop i old)) ≡ length old - i

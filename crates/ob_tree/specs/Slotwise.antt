@@ -3,13 +3,13 @@ use Rattle.std.specs.Prelude.{◌≡◌, ◌<◌, ◌+◌, ◌*◌, ◌/◌, ℕ
 use Rattle.std.specs.List.{flat_map}
 use Rattle.ob_script.specs.Parts.{path_place}
 use Rattle.ob_path.specs.Paths.{path_up, is_on_path, path_slot}
-use Rattle.ob_path.specs.Rows.{slots_of, firsts, but_firsts, first}
+use Rattle.ob_path.specs.Rows.{slots_of, firsts, except_firsts, first}
 use Rattle.ob_path.specs.States.{State, bucket}
 
 -- the slots of a path's buckets from the leaf up, and then t of the stash
 abbrev pub laid : {R : Type 0} → (ℕ → R → Bool) → List ℕ → ℕ → List R → List (Option R)
 laid fits [] t left = slots_of t left
-laid fits (b ∷ bs) t left = slots_of 4 (firsts 4 (fits b) left) ++ laid fits bs t (but_firsts 4 (fits b) left)
+laid fits (b ∷ bs) t left = slots_of 4 (firsts 4 (fits b) left) ++ laid fits bs t (except_firsts 4 (fits b) left)
 
 -- for each slot, which rows may lie there
 abbrev pub slot_tests : {R : Type 0} → (ℕ → R → Bool) → List ℕ → ℕ → List (R → Bool)
@@ -19,11 +19,11 @@ slot_tests fits (b ∷ bs) t = replicate 4 (fits b) ++ slot_tests fits bs t
 -- each slot takes the first of the rows left that may lie there
 abbrev pub laid_slots : {R : Type 0} → List (R → Bool) → List R → List (Option R)
 laid_slots [] left = []
-laid_slots (p ∷ ps) left = first (firsts 1 p left) ∷ laid_slots ps (but_firsts 1 p left)
+laid_slots (p ∷ ps) left = first (firsts 1 p left) ∷ laid_slots ps (except_firsts 1 p left)
 
 abbrev pub left_behind : {R : Type 0} → List (R → Bool) → List R → List R
 left_behind [] left = left
-left_behind (p ∷ ps) left = left_behind ps (but_firsts 1 p left)
+left_behind (p ∷ ps) left = left_behind ps (except_firsts 1 p left)
 
 -- the slots that an access opens: those of a path from the leaf up, those of the stash, and an empty one
 abbrev pub open_slots : {R : Type 0} → ℕ → ℕ → State R → List (Option R)

@@ -8,7 +8,7 @@ ghost use Rattle.ob_row.specs.Rows.{Row, keys_repeat};
 ghost use Rattle.ob_path.specs.Paths.{above, path_up, is_on_path};
 ghost use Rattle.ob_tree.specs.Drawing.{Event, numbers_read};
 ghost use Rattle.ob_row.specs.Keys.{row_key, InRange};
-ghost use Rattle.ob_path.specs.Rows.{firsts, but_firsts, by_key, slots_of, Single};
+ghost use Rattle.ob_path.specs.Rows.{firsts, except_firsts, by_key, slots_of, Single};
 ghost use Rattle.ob_path.specs.States.{State, Represents, Stands, map_of, held, leaf_of, bucket};
 ghost use Rattle.ob_path.specs.Access.{Op, Done, Found, Duplicate, OutOfRange, Went, Evicted, key_of, applied, access, evict, evicted, leaf_read, take_path, fits_by};
 ghost use Rattle.ob_tree.specs.Runs.{run, created, map_after, map_answer, KeepsKey, AllKeep, RunsAsMap, ReadsDraws, leaf_at, draws_read, last_given, insert_from, small_ops};
@@ -24,7 +24,7 @@ pub trait Keyed {
 /// A bucket's rows and those left are the rows that there were, and so are the rows in order.
 pub fn bags<R: Keyed>()
     ensures taken { (n : ℕ) (p : R → Bool) (all : List R) → Same (firsts n p all
-        ++ but_firsts n p all) all }
+        ++ except_firsts n p all) all }
     ensures ordered { (all : List R) → Same (by_key R.key all) all }
 {}
 
@@ -133,17 +133,17 @@ pub fn picks_one_by_one<R: Keyed>()
     ensures least { (p : R → Bool) (row : R) (rest all : List R) → Single R.key all
         → Same all (row ∷ rest) → p row ≡ true
         → All (λ (other : R). p other ≡ true → R.key row ≤ R.key other) rest
-        → (firsts 1 p (by_key R.key all) ≡ row ∷ []) × (but_firsts 1 p (by_key R.key all)
+        → (firsts 1 p (by_key R.key all) ≡ row ∷ []) × (except_firsts 1 p (by_key R.key all)
         ≡ by_key R.key rest) }
     ensures none { (n : ℕ) (p : R → Bool) (all : List R) → All (λ (row : R). p row ≡ false) all
-        → (firsts n p (by_key R.key all) ≡ []) × (but_firsts n p (by_key R.key all)
+        → (firsts n p (by_key R.key all) ≡ []) × (except_firsts n p (by_key R.key all)
         ≡ by_key R.key all) }
     ensures more { (n : ℕ) (p : R → Bool) (all : List R) → (firsts (suc n) p all ≡ firsts 1 p all
-        ++ firsts n p (but_firsts 1 p all))
-        × (but_firsts (suc n) p all ≡ but_firsts n p (but_firsts 1 p all)) }
+        ++ firsts n p (except_firsts 1 p all))
+        × (except_firsts (suc n) p all ≡ except_firsts n p (except_firsts 1 p all)) }
 {}
 
-/// The tree behind an eviction, by its slots and buckets: off the path as it was, and each bucket of the path with the rows that it took.
+/// The tree after an eviction, by its slots and buckets: off the path as it was, and each bucket of the path with the rows that it took.
 pub fn slots_behind<R>()
     ensures untouched { (h leaf p : ℕ) (fits : ℕ → R → Bool) (e : Evicted R) → leaf < 2 ^ h
         → length e.tree ≡ 4 * (2 ^ (h + 1) - 1)

@@ -18,7 +18,7 @@ take_set (x ∷ xs) (suc i) y below = ap (λ (l : List _). x ∷ l) (take_set xs
 module _ {E : Type 0} (grew : E → E → List Event → Type 0) (closed : E → E → ℕ → Outcome → Type 0) (written : E → Option (List ℕ)) (waiting : E → List ℕ) (outcomes : E → List Outcome)
     (took : (a b : E) (events : List Event) → grew a b events → Sends (written a) (written b) (waiting a) (waiting b) ⊥ (events_text events) × (outcomes b ≡ outcomes a))
     (ends : (a b : E) (place : ℕ) (outcome : Outcome) → closed a b place outcome → Sends (written a) (written b) (waiting a) (waiting b) ⊥ (closing_line outcome) × IsKept place outcome (outcomes a) (outcomes b)) where
-  -- their answers came behind what waited for the sink
+  -- their answers came after what waited for the sink
   pub closes_sent : (place : ℕ) (ended : List Closed) (a b : E) → ClosesAll grew closed place ended a b → Sends (written a) (written b) (waiting a) (waiting b) ⊥ (closed_text ended)
   closes_sent place [] a b same = subst (λ (e : E). Sends (written a) (written e) (waiting a) (waiting e) ⊥ []) (sym same) (sends_none (written a) (waiting a))
   closes_sent place (one ∷ more) a b all =

@@ -13,7 +13,7 @@ pub record IsKept (place : ℕ) (outcome : Outcome) (old new : List Outcome) : T
 abbrev pub outcomes_of : List Closed → List Outcome
 outcomes_of ended = map (λ (one : Closed). one.outcome) ended
 
--- the answers of those that have ended, one behind the other, each with its closing line
+-- the answers of those that have ended, one after the other, each with its closing line
 abbrev pub closed_text : List Closed → List ℕ
 closed_text [] = []
 closed_text (one ∷ ended) =

@@ -5,7 +5,7 @@ ghost use Rattle.ob_headline.specs.Closing;
 use ob_print::{Line, refusal_line};
 use ob_verdict::Outcome;
 
-/// It is empty behind rows, which their number ends.
+/// It is empty after rows, which their number ends.
 pub fn closing_line(outcome: Outcome) -> Line
     ensures { result ≡ Closing.closing_line outcome }
 {

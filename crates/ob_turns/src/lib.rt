@@ -1,6 +1,6 @@
 //! What the program's flights of statements take their words from, and how their answers are printed.
 //!
-//! `DrawnTurns` gives the words of the program; `FlightPrinter` prints answers one behind the other, each with its closing
+//! `DrawnTurns` gives the words of the program; `FlightPrinter` prints answers one after the other, each with its closing
 //! line, and keeps how each statement was answered.
 #![tactic(auto)]
 

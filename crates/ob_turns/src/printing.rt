@@ -21,7 +21,7 @@ fn keep(outcomes: &mut [Outcome], place: u32, outcome: Outcome)
     }
 }
 
-/// Prints answers one behind the other, each with the line that ends it, and keeps how the statement at each place was
+/// Prints answers one after the other, each with the line that ends it, and keeps how the statement at each place was
 /// answered, where there is room for it.
 #[derive(Drop)]
 pub struct FlightPrinter<'a, K: Sink> {
@@ -55,7 +55,7 @@ impl<'a, K: Sink> Emit for FlightPrinter<'a, K> {
 }
 
 impl<'a, K: Sink> FlightOut for FlightPrinter<'a, K> {
-    // its line came behind what waited for the sink
+    // its line came after what waited for the sink
     ghost closed = { λ s t place outcome. Sends (K.written s.printer.out.out.now) (K.written t.printer.out.out.now) s.printer.out.waiting.items t.printer.out.waiting.items ⊥ (closing_line outcome) × (t.printer.out.out.ghost_name ≡ s.printer.out.out.ghost_name) × IsKept place outcome s.outcomes.now t.outcomes.now };
 
     // a first part of it did

@@ -5,7 +5,7 @@ use Rattle.ob_base.specs.declared.access.Access.{Access}
 use Rattle.ob_base.specs.declared.access.Access.TheVariants.{Make, Read, Write, Discard, Open}
 use Rattle.ob_base.specs.Accesses.{writes, nth_write}
 use Rattle.ob_base.proofs.AccessLemmas.{number_own, write_named, write_apart}
-use Rattle.ob_store.specs.State.{Lie}
+use Rattle.ob_store.specs.State.{FalseRead}
 use Rattle.ob_seal.specs.KeySet.{KeySet, pair_at}
 use Rattle.ob_seal.specs.Sealed.{AreBefore, InRange, TwoSalts, TwoTexts, sealed, ciphered, keys_salted, pair_by, tag_of}
 use Rattle.ob_seal.specs.declared.Salted.{Salted}
@@ -54,7 +54,7 @@ numbers_alone w q x r y n tied (inl is) (inr given) = absurd (early w q x r y n 
 numbers_alone w q x r y n tied (inr given) (inl at) = absurd (early w r y q x n tied at given.0)
 numbers_alone w q x r y n tied (inr one) (inr other) = tied.start.alone q x r y (sym one.0 ∙ other.0) (λ zero. one.1 (one.0 ∙ zero))
 
--- a write is to a region behind this one, where each is
+-- a write is to a region after this one, where each is
 written_behind : (start : Start) (asked : List Access) (i q x : ℕ) → WritesBehind start asked → slice_get asked i ≡ Some (Write q x) → MayWrite start q
 written_behind start [] zero q x all is = absurd (cc is)
 written_behind start [] (suc i) q x all is = absurd (cc is)
@@ -72,7 +72,7 @@ written_behind start (Write r y ∷ rest) (suc i) q x all is = written_behind st
 pub writes_own : (w : World) (i q x : ℕ) → Tied w → IsWrite i q x w → MayWrite w.vault.start q
 writes_own w i q x tied is = written_behind w.vault.start w.store.asked i q x tied.own is.is
 
--- what regions are before, is behind them further on, too
+-- what regions are before, is after them further on, too
 before_more : (q r : ℕ) (earlier : List Salted) → r ≤ q → AreBefore r earlier → AreBefore q earlier
 before_more q r [] more before = tt
 before_more q r (e ∷ es) more before = (omega (arith, more, before.0), before_more q r es more before.1)
@@ -86,7 +86,7 @@ writes_salted secret salt earlier w i q x tied keys before is mine n =
     ∙ own_pair secret salt earlier q (before_more q (w.vault.start.region + 1) earlier (omega (arith, own)) before)
 
 -- the tag of a block that was sealed under some keys, and is taken under others
-taken_tag : (k l : KeySet) (start : Start) (lie : Lie) (a : At) (rows : List ℕ) → lie.bytes ≡ sealed k a rows → TagFits l start lie
+taken_tag : (k l : KeySet) (start : Start) (lie : FalseRead) (a : At) (rows : List ℕ) → lie.bytes ≡ sealed k a rows → TagFits l start lie
     → tag_of k a (ciphered k a rows) ≡ tag_of l (at_lie start lie) (ciphered k a rows)
 taken_tag k l start lie a rows is fits =
     let text = ciphered k a rows in
@@ -96,11 +96,11 @@ taken_tag k l start lie a rows is fits =
     let behind : drop (length lie.bytes - 32) lie.bytes ≡ tag = (λ i. drop (size i) (is i)) ∙ drop_at text tag (length text) refl in
     sym behind ∙ fits.tag ∙ ap (tag_of l (at_lie start lie)) front
 
-pub lies_apart : (keys : KeySet) (start : Start) (lie : Lie) (a : At) (rows : List ℕ) → lie.bytes ≡ sealed keys a rows → InRange a → InRange (at_lie start lie) → a ≢ at_lie start lie
+pub lies_apart : (keys : KeySet) (start : Start) (lie : FalseRead) (a : At) (rows : List ℕ) → lie.bytes ≡ sealed keys a rows → InRange a → InRange (at_lie start lie) → a ≢ at_lie start lie
     → TagFits keys start lie → TwoTexts keys
 lies_apart keys start lie a rows is fa fb off fits =
     heads_apart keys a (at_lie start lie) (ciphered keys a rows) fa fb off (taken_tag keys keys start lie a rows is fits)
 
-pub lies_salted : (k l : KeySet) (start : Start) (lie : Lie) (a : At) (rows : List ℕ) → lie.bytes ≡ sealed k a rows → (pair_at k a).salt ≢ (pair_at l (at_lie start lie)).salt
+pub lies_salted : (k l : KeySet) (start : Start) (lie : FalseRead) (a : At) (rows : List ℕ) → lie.bytes ≡ sealed k a rows → (pair_at k a).salt ≢ (pair_at l (at_lie start lie)).salt
     → TagFits l start lie → TwoSalts k l
 lies_salted k l start lie a rows is off fits = salts_apart k l a (at_lie start lie) (ciphered k a rows) off (taken_tag k l start lie a rows is fits)

@@ -2,7 +2,7 @@
 use Rattle.std.proofs.Common.{◌≡◌, ◌⊎◌, inl, inr, ℕ, ◌-◌, List, [], ◌∷◌, Option, Some, None, length, take, drop, refl, sym, ◌∙◌, ap, subst}
 use Rattle.ob_base.specs.declared.access.Access.{Access}
 use Rattle.ob_base.specs.declared.access.Access.TheVariants.{Read}
-use Rattle.ob_store.specs.State.{Lie, StoreState}
+use Rattle.ob_store.specs.State.{FalseRead, StoreState}
 use Rattle.ob_store.specs.Calls.{Asks, ReadGives}
 use Rattle.ob_store.proofs.Steps.{list_cases, began_call, did_call}
 use Rattle.ob_seal.specs.KeySet.{KeySet}
@@ -30,7 +30,7 @@ lie_after region place bytes old new asks gives = go old.lie refl
       | inr other ↦ inr (gives.caught block was is other)
     ]
 
-    go : (o : Option Lie) → old.lie ≡ o → Goal
+    go : (o : Option FalseRead) → old.lie ≡ o → Goal
     go None was = fresh was (old.last region place) refl
     go (Some lie) was = inl (asks.lie lie was ∙ sym was)
 
@@ -60,11 +60,11 @@ module _ (v : VaultState) (q x : ℕ) (old new : StoreState) (asks : Asks (Read 
       calm = λ calm. elim (lie_after q x bytes old new asks gives) [
         | inl same ↦ calm_lasts none (world v old) (world v new) (Read q x ∷ []) lasts asks.asked same calm
         | inr is ↦
-            let here : Lie = record { region = q; place = x; bytes = bytes; before = old.asked } in
+            let here : FalseRead = record { region = q; place = x; bytes = bytes; before = old.asked } in
             let fits : TagFits v.keys v.start here = record { tag = tag } in
             record {
-              calm = λ lie now. let at : here ≡ lie = cc (is, now) in subst (λ (l : Lie). TagFits v.keys v.start l) at fits;
-              within = λ lie now. let at : here ≡ lie = cc (is, now) in subst (λ (l : Lie). ReadsIn l new.asked) at (record { rest = []; is = sym asks.asked });
+              calm = λ lie now. let at : here ≡ lie = cc (is, now) in subst (λ (l : FalseRead). TagFits v.keys v.start l) at fits;
+              within = λ lie now. let at : here ≡ lie = cc (is, now) in subst (λ (l : FalseRead). ReadsIn l new.asked) at (record { rest = []; is = sym asks.asked });
             }
       ];
     }

@@ -1,11 +1,11 @@
 -- A vault that goes on under other keys, which are the same for each region that matters.
 use Rattle.std.proofs.Common.{◌≡◌, ◌≢◌, ◌≤◌, ◌-◌, ℕ, Bool, List, Some, None, length, take, refl, ◌∙◌, ap}
-use Rattle.ob_store.specs.State.{Lie}
+use Rattle.ob_store.specs.State.{FalseRead}
 use Rattle.ob_seal.specs.KeySet.{AreAlike, KeySet}
 use Rattle.ob_seal.proofs.Agree.{sealed_agree, tag_agree}
 use Rattle.ob_vault.specs.State.{World}
 use Rattle.ob_vault.specs.Rekeying.{rekeyed}
-use Rattle.ob_vault.specs.Tied.{AllSealed, Calm, Holds, Ready, Scope, at_lie, at_of}
+use Rattle.ob_vault.specs.Tied.{AllSealed, Untampered, Holds, Ready, Scope, at_lie, at_of}
 
 module _ (keys : KeySet) (w : World) where
   pub ready_rekeyed : Ready w → Ready (rekeyed keys w)
@@ -42,7 +42,7 @@ module _ (keys : KeySet) (w : World) where
         };
   }
 
-  pub calm_rekeyed : ((lie : Lie) → w.store.lie ≡ Some lie → AreAlike w.vault.keys keys lie.region) → Calm w → Calm (rekeyed keys w)
+  pub calm_rekeyed : ((lie : FalseRead) → w.store.lie ≡ Some lie → AreAlike w.vault.keys keys lie.region) → Untampered w → Untampered (rekeyed keys w)
   calm_rekeyed same calm = record {
     calm = λ lie told.
         let fits = calm.calm lie told in

@@ -21,7 +21,7 @@ use Rattle.ob_vault.specs.State.{Start, RevState, VaultState, World, from_earlie
 use Rattle.std.specs.List.{list_any}
 use Rattle.ob_vault.specs.Numbers.{number_after, IsNumber, IsStart, WritesBehind}
 use Rattle.ob_vault.specs.Places.{given_from}
-use Rattle.ob_vault.specs.Tied.{InLaps, Ready, Written, Holds, Scope, SealedAt, AllSealed, Calm, at_of}
+use Rattle.ob_vault.specs.Tied.{InLaps, Ready, Written, Holds, Scope, SealedAt, AllSealed, Untampered, at_of}
 use Rattle.ob_vault.specs.Calls.{Apart, Lasts, Seals, one}
 use Rattle.ob_vault.specs.Resuming.{Unasked, MayResume, Gives, Stays, Reopened, KeptSealed, ResumesRegion, open_at}
 use Rattle.ob_vault.proofs.WorldSteps.{world, Moved, behind_more, laps_same, ready_moved, apart_moved, next_none, lasts_forget, reads_on, sealed_keeps, seals_unasked}
@@ -158,7 +158,7 @@ module _ (v : VaultState) (revs : RevState) (start : Start) (old new : StoreStat
   next_on = omega (arith, ready.tied.next, ap makes asked, makes_more old.asked access)
 
   -- a lie that was told stays one that fits
-  calm_on : new.lie ≡ old.lie → ((l : List Access) (r x : ℕ) → r ≢ q → number_after start l r x ≡ number_after v.start l r x) → Calm was → Calm (world (record v { start = start; revs = revs }) new)
+  calm_on : new.lie ≡ old.lie → ((l : List Access) (r x : ℕ) → r ≢ q → number_after start l r x ≡ number_after v.start l r x) → Untampered was → Untampered (world (record v { start = start; revs = revs }) new)
   calm_on same numbers calm = record {
     calm = λ lie is.
         let reads = calm.within lie (sym same ∙ is) in
@@ -409,7 +409,7 @@ module _ (v : VaultState) (revs : RevState) (old new : StoreState) (q number : �
   }
 
   module _ (others : OtherRegions q v.revs revs) (gone : revs.live q ≡ None) (keeps : Keeps old new) where
-    calm_shut : Calm (world v old) → Calm (world (record v { revs = revs }) new)
+    calm_shut : Untampered (world v old) → Untampered (world (record v { revs = revs }) new)
     calm_shut = calm_on v revs v.start old new q number shape ready may asks.asked asks.lie (λ l r x off. refl)
 
     shut_seals : (good : ℕ → List ℕ → Bool) → Seals good (world v old) (world (record v { revs = revs }) new)
@@ -498,7 +498,7 @@ resumes_unasked v revs s q number shape ready others gone = record {
   seals = λ good under. seals_same good;
   unsealed = seals_same;
 } where
-  calm_same : Calm (world v s) → Calm (world (record v { revs = revs }) s)
+  calm_same : Untampered (world v s) → Untampered (world (record v { revs = revs }) s)
   calm_same calm = record { calm = λ lie is. let fits = calm.calm lie is in record { tag = fits.tag }; within = calm.within }
 
   seals_same : (good : ℕ → List ℕ → Bool) → Seals good (world v s) (world (record v { revs = revs }) s)

@@ -67,7 +67,7 @@ module _ (some : ℕ → Type 0) (a b c : World) where
   cause_after (Tampered q p) x first (same, ends, unfit, calm) = (same ∙ first.did.faults, ends, unfit, λ was. calm (first.calm was))
   cause_after NoMemory x first (same, calm) = (same ∙ first.did.faults, λ was. calm (first.calm was))
 
-  -- more was asked behind some accesses
+  -- more was asked after some accesses
   pub asked_after : (x : List Access) → Went x some a b → length b.store.asked < length c.store.asked → length a.store.asked < length c.store.asked
   asked_after x first more =
       let n = ap (λ (l : List Access). length l) first.did.asked ∙ length-append a.store.asked x in

@@ -6,7 +6,7 @@ use Rattle.std.proofs.lemmas.Bool.Decides.{nat_tests}
 use Rattle.std.proofs.lemmas.List.{append-nil}
 use Rattle.ob_base.specs.declared.access.Access.{Access}
 use Rattle.ob_base.specs.declared.access.Access.TheVariants.{Make, Read, Write, Discard, Open}
-use Rattle.ob_store.specs.State.{Lie, StoreState}
+use Rattle.ob_store.specs.State.{FalseRead, StoreState}
 use Rattle.ob_base.specs.Counts.{Rises}
 use Rattle.ob_store.specs.Calls.{IsRegion, Asks, Keeps, OnlyAt, OnlyRegion, Makes}
 use Rattle.ob_store.specs.Runs.{Later}
@@ -22,7 +22,7 @@ use Rattle.ob_vault.specs.State.{Start, RevState, VaultState, World, from_earlie
 use Rattle.ob_base.specs.Accesses.{writes, makes, nth_write, discard_at, read_at, write_at}
 use Rattle.ob_base.specs.Accesses.{AllBelow}
 use Rattle.ob_vault.specs.Numbers.{MayWrite, number_after, last_number, IsNumber, IsStart, WritesBehind}
-use Rattle.ob_vault.specs.Tied.{InLaps, IsOwn, Ready, Scope, SealedAt, AllSealed, TagFits, ReadsIn, Calm, OnTurn, Holds, at_of}
+use Rattle.ob_vault.specs.Tied.{InLaps, IsOwn, Ready, Scope, SealedAt, AllSealed, TagFits, ReadsIn, Untampered, OnTurn, Holds, at_of}
 use Rattle.ob_vault.specs.Calls.{Apart, Only, Lasts, Seals, Went, CutShort, none, one}
 use Rattle.ob_vault.specs.VaultCalls.{Forgets}
 use Rattle.ob_base.proofs.AccessLemmas.{number_read, number_make, number_discard, number_write_here, number_write_other, writes_read, writes_write, writes_make, writes_discard, makes_more, below_more, below_up, number_fresh, went_on, went_last}
@@ -60,9 +60,9 @@ module _ (good : ℕ → List ℕ → Bool) (scope : Scope) (old new : World) (m
     pub sealed_keeps : Keeps old.store new.store → AllSealed good scope old → AllSealed good scope new
     sealed_keeps keeps = sealed_kept (λ q x b live at. inr (record { live = λ n. live (keeps.live q ∙ n); last = sym (keeps.last q x) ∙ at; number = λ few. numbers q x }))
 
-    -- but for a region that is gone, or has no block
-    pub sealed_but : (g : ℕ) → OnlyRegion g old.store new.store → ((new.store.live g ≡ None) ⊎ ((x : ℕ) → new.store.last g x ≡ None)) → AllSealed good scope old → AllSealed good scope new
-    sealed_but g only gone = sealed_kept (λ q x b live at. elim (cases_eq q g) [
+    -- except for a region that is gone, or has no block
+    pub sealed_except : (g : ℕ) → OnlyRegion g old.store new.store → ((new.store.live g ≡ None) ⊎ ((x : ℕ) → new.store.last g x ≡ None)) → AllSealed good scope old → AllSealed good scope new
+    sealed_except g only gone = sealed_kept (λ q x b live at. elim (cases_eq q g) [
       | inl here ↦ absurd (elim gone [
         | inl left ↦ live (ap new.store.live here ∙ left)
         | inr empty ↦ cc (sym at ∙ ap (λ (k : ℕ). new.store.last k x) here ∙ empty x)
@@ -84,7 +84,7 @@ laps_same q shape a b numbers turn laps = record {
       numbers (x + 1) ∙ laps.runs x below (λ same. next (same ∙ sym turn)) (λ none. some (numbers x ∙ none)) ∙ ap (λ (n : ℕ). n + 1) (sym (numbers x));
 }
 
--- writes behind a region, and one access more
+-- writes after a region, and one access more
 pub behind_more : (start : Start) (asked : List Access) (a : Access) → WritesBehind start asked → WritesBehind start (a ∷ []) → WritesBehind start (asked ++ a ∷ [])
 behind_more start [] a all last = last
 behind_more start (Make q blocks len ∷ rest) a all last = behind_more start rest a all last
@@ -179,23 +179,23 @@ abbrev pub world : VaultState → StoreState → World
 world v s = record { vault = v; store = s }
 
 -- over a call whose read told no lie
-pub fits_lasts : (some : ℕ → Type 0) (old new : World) (lie : Lie) → Lasts some old new → TagFits old.vault.keys old.vault.start lie → TagFits new.vault.keys new.vault.start lie
+pub fits_lasts : (some : ℕ → Type 0) (old new : World) (lie : FalseRead) → Lasts some old new → TagFits old.vault.keys old.vault.start lie → TagFits new.vault.keys new.vault.start lie
 fits_lasts some old new lie lasts fits = subst (λ (k : KeySet). TagFits k new.vault.start lie) (sym lasts.keys) (subst (λ (s : Start). TagFits old.vault.keys s lie) (sym lasts.start) fits)
 
-pub reads_on : (lie : Lie) (asked more all : List Access) → all ≡ asked ++ more → ReadsIn lie asked → ReadsIn lie all
+pub reads_on : (lie : FalseRead) (asked more all : List Access) → all ≡ asked ++ more → ReadsIn lie asked → ReadsIn lie all
 reads_on lie asked more all is reads = record {
   rest = reads.rest ++ more;
   is = sym (append_assoc lie.before (Read lie.region lie.place ∷ reads.rest) more) ∙ ap (λ (l : List Access). l ++ more) reads.is ∙ sym is;
 }
 
-pub calm_lasts : (some : ℕ → Type 0) (old new : World) (more : List Access) → Lasts some old new → new.store.asked ≡ old.store.asked ++ more → new.store.lie ≡ old.store.lie → Calm old → Calm new
+pub calm_lasts : (some : ℕ → Type 0) (old new : World) (more : List Access) → Lasts some old new → new.store.asked ≡ old.store.asked ++ more → new.store.lie ≡ old.store.lie → Untampered old → Untampered new
 calm_lasts some old new more lasts asked same calm = record {
   calm = λ lie is. fits_lasts some old new lie lasts (calm.calm lie (sym same ∙ is));
   within = λ lie is. reads_on lie old.store.asked more new.store.asked asked (calm.within lie (sym same ∙ is));
 }
 
 -- before the first lie
-pub calm_none : (w : World) → w.store.lie ≡ None → Calm w
+pub calm_none : (w : World) → w.store.lie ≡ None → Untampered w
 calm_none w none = record { calm = λ lie told. absurd (cc (told, none)); within = λ lie told. absurd (cc (told, none)) }
 
 -- no call
@@ -319,7 +319,7 @@ seals_drop good v revs old new g asks only left =
     λ q x. ap (λ (l : List Access). number_after v.start l q x) asks.asked ∙ number_discard v.start.writes (v.start.given q x) q x g old.asked in
     record {
       seals = λ scope few tells all. elim left [
-        | inl left ↦ sealed_but good scope was now (discard_at g) refl refl asks.asked asks.faults numbers g only (inl left) all
+        | inl left ↦ sealed_except good scope was now (discard_at g) refl refl asks.asked asks.faults numbers g only (inl left) all
         | inr keeps ↦ sealed_keeps good scope was now (discard_at g) refl refl asks.asked asks.faults numbers keeps all
       ];
     }
@@ -339,7 +339,7 @@ pub seals_make : (good : ℕ → List ℕ → Bool) (v : VaultState) (revs : Rev
     → Seals good (world v old) (world (record v { next = v.next + 1; revs = revs }) new)
 seals_make good v revs old new g blocks len asks makes' =
     let numbers = numbers_make v old new g blocks len asks in
-    record { seals = λ scope few tells all. sealed_but good scope (world v old) (world (record v { next = v.next + 1; revs = revs }) new) (Make g blocks len ∷ []) refl refl asks.asked asks.faults numbers g makes'.others (inr makes'.empty) all }
+    record { seals = λ scope few tells all. sealed_except good scope (world v old) (world (record v { next = v.next + 1; revs = revs }) new) (Make g blocks len ∷ []) refl refl asks.asked asks.faults numbers g makes'.others (inr makes'.empty) all }
 
 pub seals_unmade : (good : ℕ → List ℕ → Bool) (v : VaultState) (revs : RevState) (old new : StoreState) (g blocks len : ℕ) → Asks (Make g blocks len) old new → Keeps old new
     → Seals good (world v old) (world (record v { next = v.next + 1; revs = revs }) new)
@@ -367,7 +367,7 @@ module _ (v : VaultState) (revs : RevState) (old new : StoreState) (q x : ℕ) (
   number_other : (r y : ℕ) → (r ≡ q → y ≡ x → ⊥) → number_after v.start new.asked r y ≡ number_after v.start old.asked r y
   number_other r y off = ap (λ (l : List Access). number_after v.start l r y) asks.asked ∙ number_write_other v.start.writes (v.start.given r y) r y q x old.asked off
 
-  -- behind the last place the first one is next, and behind any other the one after it
+  -- after the last place the first one is next, and after any other the one after it
   next_place : (n : ℕ) → n + 1 < shape.blocks → (if n + 1 == shape.blocks then 0 else n + 1) ≡ n + 1
   next_place n below = grind (arith, nat_tests)
 

@@ -7,7 +7,7 @@ use Rattle.ob_store.specs.Runs.{Did, Began, Later}
 use Rattle.ob_vault.specs.declared.fault.VaultErr.{VaultErr}
 use Rattle.ob_vault.specs.declared.fault.VaultErr.TheVariants.{Failed, Tampered, NoMemory}
 use Rattle.ob_vault.specs.State.{World}
-use Rattle.ob_vault.specs.Tied.{Ready, Scope, AllSealed, Calm, EndsAt, at_of, next_fault}
+use Rattle.ob_vault.specs.Tied.{Ready, Scope, AllSealed, Untampered, EndsAt, at_of, next_fault}
 use Rattle.ob_vault.specs.Numbers.{last_number}
 use Rattle.ob_seal.specs.Sealed.{sealed, tag_of}
 
@@ -54,7 +54,7 @@ pub record Went (script : List Access) (some : ℕ → Type 0) (old new : World)
   pub lasts : Lasts some old new
   pub did : Did script old.store new.store
   pub spare : old.store.spare ≤ new.store.spare + length script
-  pub calm : Calm old → Calm new
+  pub calm : Untampered old → Untampered new
 
 -- the last access read this place
 pub record EndsRead (q x : ℕ) (w : World) : Type 0 where
@@ -73,9 +73,9 @@ pub record Unsealed (q x : ℕ) (rows : List ℕ) (w : World) : Type 0 where
 
 -- why a call gave up
 abbrev pub Cause : VaultErr → World → World → Type 0
-Cause Failed old new = Rises old.store.faults new.store.faults × (Calm old → Calm new)
-Cause (Tampered q x) old new = (new.store.faults ≡ old.store.faults) × EndsRead q x new × Unfit q x new × (Calm old → Calm new ⊎ EndsAt q x new)
-Cause NoMemory old new = (new.store.faults ≡ old.store.faults) × (Calm old → Calm new)
+Cause Failed old new = Rises old.store.faults new.store.faults × (Untampered old → Untampered new)
+Cause (Tampered q x) old new = (new.store.faults ≡ old.store.faults) × EndsRead q x new × Unfit q x new × (Untampered old → Untampered new ⊎ EndsAt q x new)
+Cause NoMemory old new = (new.store.faults ≡ old.store.faults) × (Untampered old → Untampered new)
 
 -- a first part of the script was asked, an access at least unless memory was wanted, and no other
 -- region has changed

@@ -12,7 +12,7 @@ number_after start asked q x = number_from start.writes (start.given q x) q x as
 abbrev pub last_number : World → ℕ → ℕ → ℕ
 last_number w q x = number_after w.vault.start w.store.asked q x
 
--- whether a number is that of a write to the place: of this run, whose writes count on from 1 behind those
+-- whether a number is that of a write to the place: of this run, whose writes count on from 1 after those
 -- of the earlier one, or of the last one before it
 abbrev pub IsNumber : World → ℕ → ℕ → ℕ → Type 0
 IsNumber w q x n = (nth_write (n - w.vault.start.writes) w.store.asked ≡ Some (q, x))

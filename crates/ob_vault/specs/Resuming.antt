@@ -3,7 +3,7 @@ use Rattle.std.specs.Prelude.{◌≡◌, ◌≢◌, ◌⊎◌, ◌≤◌, ◌<�
 use Rattle.ob_base.specs.Accesses.{region_of}
 use Rattle.ob_base.specs.declared.access.Access.{Access}
 use Rattle.ob_base.specs.declared.access.Access.TheVariants.{Open}
-use Rattle.ob_store.specs.State.{KeptRegion, Lie}
+use Rattle.ob_store.specs.State.{KeptRegion, FalseRead}
 use Rattle.ob_store.specs.Calls.{IsSteady, Keeps, Resumes}
 use Rattle.ob_store.specs.Runs.{Did, Began}
 use Rattle.ob_seal.specs.KeySet.{KeySet}
@@ -12,7 +12,7 @@ use Rattle.ob_vault.specs.declared.region.Region.{Region}
 use Rattle.ob_vault.specs.declared.fault.VaultErr.{VaultErr}
 use Rattle.ob_vault.specs.declared.fault.VaultErr.TheVariants.{Failed, NoMemory}
 use Rattle.ob_vault.specs.State.{Start, World}
-use Rattle.ob_vault.specs.Tied.{Ready, Lives, OnTurn, Calm, at_of}
+use Rattle.ob_vault.specs.Tied.{Ready, Lives, OnTurn, Untampered, at_of}
 use Rattle.ob_vault.specs.Calls.{Apart, Cause, Seals, one}
 
 -- a region whose blocks hold rows of this width together, and a tag of 32 bytes, is opened
@@ -55,7 +55,7 @@ pub record Stays (some : ℕ → Type 0) (old new : World) : Type 0 where
   pub log : new.store.let_go ≡ old.store.let_go
   pub faults : old.store.faults ≤ new.store.faults
   pub tells : new.store.tells ≡ old.store.tells
-  pub lie : (lie : Lie) → old.store.lie ≡ Some lie → new.store.lie ≡ Some lie
+  pub lie : (lie : FalseRead) → old.store.lie ≡ Some lie → new.store.lie ≡ Some lie
   pub steady : IsSteady old.store → IsSteady new.store
   pub apart : Apart some old new
 
@@ -100,7 +100,7 @@ pub record ResumesRegion {T : Type 0} (q : ℕ) (shape : Region) (number : ℕ)
   pub kept : (r : ℕ) → new.store.kept r ≡ old.store.kept r
   pub spare : old.store.spare ≤ new.store.spare + 1
   pub next : new.vault.next ≡ old.vault.next
-  pub calm : Calm old → Calm new
+  pub calm : Untampered old → Untampered new
   pub ok : OnOk result (Reopened q shape number old new)
   pub err : IfErr result (λ e. StaysShut e q shape old new)
   pub never : IfErr result (λ e. (e ≡ Failed) ⊎ (e ≡ NoMemory))

@@ -3,7 +3,7 @@ use Rattle.std.specs.Prelude.{◌≡◌, ◌≢◌, ◌<◌, ◌≤◌, ◌+◌,
 use Rattle.ob_base.specs.Accesses.{AllBelow}
 use Rattle.ob_base.specs.declared.access.Access.{Access}
 use Rattle.ob_base.specs.declared.access.Access.TheVariants.{Read}
-use Rattle.ob_store.specs.State.{Lie, StoreState}
+use Rattle.ob_store.specs.State.{FalseRead, StoreState}
 use Rattle.ob_store.specs.Calls.{IsRegion}
 use Rattle.ob_seal.specs.KeySet.{KeySet}
 use Rattle.ob_seal.specs.Sealed.{sealed, tag_of}
@@ -27,7 +27,7 @@ pub record Tied (w : World) : Type 0 where
   pub numbers : (q x : ℕ) (shape : Region) → w.vault.revs.live q ≡ Some shape → x < shape.blocks
       → w.vault.revs.number q x ≡ last_number w q x
 
--- a place of a round region has the number behind that of the place before it, unless it is the next one in turn or
+-- a place of a round region has the number after that of the place before it, unless it is the next one in turn or
 -- nothing was written before it
 pub record InLaps (q : ℕ) (shape : Region) (revs : RevState) : Type 0 where
   pub runs : (x : ℕ) → x + 1 < shape.blocks → x + 1 ≢ revs.turn q → revs.number q x ≢ 0
@@ -94,31 +94,31 @@ pub record AllSealed (good : ℕ → List ℕ → Bool) (scope : Scope) (w : Wor
       → w.store.last q x ≡ Some block → SealedAt good scope w q x block
 
 -- the place of a lie and the number of its last write then
-abbrev pub at_lie : Start → Lie → At
+abbrev pub at_lie : Start → FalseRead → At
 at_lie start lie = at_of lie.region lie.place (number_after start lie.before lie.region lie.place)
 
 -- the block of a lie has the tag of its place and number
-pub record TagFits (keys : KeySet) (start : Start) (lie : Lie) : Type 0 where
+pub record TagFits (keys : KeySet) (start : Start) (lie : FalseRead) : Type 0 where
   pub tag : drop (length lie.bytes - 32) lie.bytes
       ≡ tag_of keys (at_lie start lie) (take (length lie.bytes - 32) lie.bytes)
 
 -- the read of a lie is one of these accesses
-pub record ReadsIn (lie : Lie) (accesses : List Access) : Type 0 where
+pub record ReadsIn (lie : FalseRead) (accesses : List Access) : Type 0 where
   pub rest : List Access
   pub is : lie.before ++ Read lie.region lie.place ∷ rest ≡ accesses
 
 -- no lie is told, or one that was read and fits
-pub record Calm (w : World) : Type 0 where
-  pub calm : (lie : Lie) → w.store.lie ≡ Some lie → TagFits w.vault.keys w.vault.start lie
-  pub within : (lie : Lie) → w.store.lie ≡ Some lie → ReadsIn lie w.store.asked
+pub record Untampered (w : World) : Type 0 where
+  pub calm : (lie : FalseRead) → w.store.lie ≡ Some lie → TagFits w.vault.keys w.vault.start lie
+  pub within : (lie : FalseRead) → w.store.lie ≡ Some lie → ReadsIn lie w.store.asked
 
 -- of the first changed block that was read, if there is one, the tag doesn't fit
 pub record IsUnfit (w : World) : Type 0 where
-  pub unfit : (lie : Lie) → w.store.lie ≡ Some lie → ¬ TagFits w.vault.keys w.vault.start lie
+  pub unfit : (lie : FalseRead) → w.store.lie ≡ Some lie → ¬ TagFits w.vault.keys w.vault.start lie
 
 -- the last access was the first lie
 pub record EndsAt (q x : ℕ) (w : World) : Type 0 where
-  pub lie : Lie
+  pub lie : FalseRead
   pub told : w.store.lie ≡ Some lie
   pub asked : w.store.asked ≡ lie.before ++ Read lie.region lie.place ∷ []
   pub at_region : lie.region ≡ q

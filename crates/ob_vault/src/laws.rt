@@ -1,13 +1,13 @@
 //! Laws of the numbers of writes, and of tags.
 ghost use Rattle.std.specs.Prelude.{◌≡◌, ◌≢◌, ◌≤◌, ◌+◌, ℕ, Bool, List, None, Some};
-ghost use Rattle.ob_store.specs.State.{Lie};
+ghost use Rattle.ob_store.specs.State.{FalseRead};
 ghost use Rattle.ob_seal.specs.KeySet.{AreAlike, KeySet, pair_at};
 ghost use Rattle.ob_seal.specs.Sealed.{AreBefore, InRange, TwoSalts, TwoTexts, keys_salted, pair_by, sealed, tag_of};
 ghost use Rattle.ob_seal.specs.declared.Salted.{Salted};
 ghost use Rattle.ob_seal.specs.declared.At.{At as Head};
 ghost use Rattle.ob_vault.specs.State.{Start, World};
 ghost use Rattle.ob_vault.specs.Numbers.{MayWrite, IsNumber, IsWrite, last_number, write_number};
-ghost use Rattle.ob_vault.specs.Tied.{AllSealed, Calm, IsOwn, TagFits, Holds, Ready, Scope, Tied, at_lie, at_of};
+ghost use Rattle.ob_vault.specs.Tied.{AllSealed, Untampered, IsOwn, TagFits, Holds, Ready, Scope, Tied, at_lie, at_of};
 ghost use Rattle.ob_vault.specs.Rekeying.{rekeyed};
 
 /// No two writes have one number, and the number of a place is that of a write to it alone; and a run writes to
@@ -36,11 +36,11 @@ pub fn tags_tell_places()
     ensures heads { (keys : KeySet) (a b : Head) (text : List ℕ) → InRange a → InRange b → a ≢ b
         → tag_of keys a text ≡ tag_of keys b text → TwoTexts keys }
     // a block that was sealed for another place, or at another write, and is taken all the same
-    ensures lies { (keys : KeySet) (start : Start) (lie : Lie) (a : Head) (rows : List ℕ)
+    ensures lies { (keys : KeySet) (start : Start) (lie : FalseRead) (a : Head) (rows : List ℕ)
         → lie.bytes ≡ sealed keys a rows → InRange a → InRange (at_lie start lie)
         → a ≢ at_lie start lie → TagFits keys start lie → TwoTexts keys }
     // one that a run under another salt has sealed, for whichever place, and is taken all the same
-    ensures salts { (k l : KeySet) (start : Start) (lie : Lie) (a : Head) (rows : List ℕ)
+    ensures salts { (k l : KeySet) (start : Start) (lie : FalseRead) (a : Head) (rows : List ℕ)
         → lie.bytes ≡ sealed k a rows → (pair_at k a).salt ≢ (pair_at l (at_lie start lie)).salt
         → TagFits l start lie → TwoSalts k l }
 {}
@@ -57,7 +57,7 @@ pub fn regions_keep_keys()
         → AreAlike w.vault.keys keys q)
         → AllSealed good scope w → AllSealed good scope (rekeyed keys w) }
     ensures calm { (keys : KeySet) (w : World)
-        → ((lie : Lie) → w.store.lie ≡ Some lie
+        → ((lie : FalseRead) → w.store.lie ≡ Some lie
         → AreAlike w.vault.keys keys lie.region)
-        → Calm w → Calm (rekeyed keys w) }
+        → Untampered w → Untampered (rekeyed keys w) }
 {}

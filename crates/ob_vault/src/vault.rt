@@ -81,7 +81,7 @@ impl<R: Revisions> Vault<R> {
         }
     }
 
-    /// Makes a region. It takes memory, but only once the store was asked: want of memory comes behind it.
+    /// Makes a region. It takes memory, but only once the store was asked: want of memory comes after it.
     ///
     /// After an error the region is not live, and its number is used up all the same.
     pub fn make<S: BlockStore>(

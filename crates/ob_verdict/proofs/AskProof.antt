@@ -15,7 +15,7 @@ use Rattle.ob_row.specs.Rows.{Row, cell_at, with_cells}
 use Rattle.ob_row.specs.Truth.{is_true, updated}
 use Rattle.ob_row.proofs.BagLemmas.{Same-refl, Same-trans}
 use Rattle.ob_path.specs.Access.{Op, Change, Insert, Went, access, after, applied}
-use Rattle.ob_path.specs.Rows.{with_key, but, list_of, first, Single}
+use Rattle.ob_path.specs.Rows.{with_key, except, list_of, first, Single}
 use Rattle.ob_tree.specs.Runs.{KeepsKey}
 use Rattle.ob_path.specs.States.{State, Stands, held, map_of}
 use Rattle.ob_tree.proofs.AccessLemmas.{held_after_some}
@@ -71,14 +71,14 @@ module _ (n i : ℕ) where
           of_number (inr past) = let no : nat_lt a n ≡ false = le-ltb a n past in absurd (let low_is : n < n = subst (λ b. cond b a n < n) no low in omega (arith, low_is))
 
   -- the rows that DELETE leaves, and those that UPDATE leaves
-  rest_is : (z : ℤ) (all : List Row) → InRange n i all → filter (λ row. not (is_true (key_is i z) row)) all ≡ but key (key_number n z) all
+  rest_is : (z : ℤ) (all : List Row) → InRange n i all → filter (λ row. not (is_true (key_is i z) row)) all ≡ except key (key_number n z) all
   rest_is z [] range = refl
   rest_is z (x ∷ xs) range =
       let rest = rest_is z xs (All-tail (λ (row : Row). row_key n i row < n) x xs range) in
       λ t. cond (not (true_is z x (All-head (λ (row : Row). row_key n i row < n) x xs range) t)) (x ∷ rest t) (rest t)
 
   changed_is : (z : ℤ) (sets : List (ℕ × Cell)) (all : List Row) → InRange n i all
-      → Same (map (with_cells sets) (with_key key (key_number n z) all) ++ but key (key_number n z) all) (map (updated (key_is i z) sets) all)
+      → Same (map (with_cells sets) (with_key key (key_number n z) all) ++ except key (key_number n z) all) (map (updated (key_is i z) sets) all)
   changed_is z sets [] range = refl
   changed_is z sets (x ∷ xs) range = go (key x == key_number n z) (true_is z x (All-head (λ (row : Row). row_key n i row < n) x xs range)) (changed_is z sets xs (All-tail (λ (row : Row). row_key n i row < n) x xs range))
     where
@@ -88,21 +88,21 @@ module _ (n i : ℕ) where
       with_k : List Row
       with_k = with_key key (key_number n z) xs
 
-      but_k : List Row
-      but_k = but key (key_number n z) xs
+      except_k : List Row
+      except_k = except key (key_number n z) xs
 
-      go : (b : Bool) → is_true (key_is i z) x ≡ b → Same (map f with_k ++ but_k) (map (updated (key_is i z) sets) xs)
-          → Same (map f (cond b (x ∷ with_k) with_k) ++ cond (not b) (x ∷ but_k) but_k) (updated (key_is i z) sets x ∷ map (updated (key_is i z) sets) xs)
-      go true is rest = rw is (Same-cons (f x) (map f with_k ++ but_k) (map (updated (key_is i z) sets) xs) rest)
-      go false is rest = rw is (Same-trans (map f with_k ++ x ∷ but_k) (x ∷ (map f with_k ++ but_k)) (x ∷ map (updated (key_is i z) sets) xs)
-          (Same-middle x (map f with_k) but_k) (Same-cons x (map f with_k ++ but_k) (map (updated (key_is i z) sets) xs) rest))
+      go : (b : Bool) → is_true (key_is i z) x ≡ b → Same (map f with_k ++ except_k) (map (updated (key_is i z) sets) xs)
+          → Same (map f (cond b (x ∷ with_k) with_k) ++ cond (not b) (x ∷ except_k) except_k) (updated (key_is i z) sets x ∷ map (updated (key_is i z) sets) xs)
+      go true is rest = rw is (Same-cons (f x) (map f with_k ++ except_k) (map (updated (key_is i z) sets) xs) rest)
+      go false is rest = rw is (Same-trans (map f with_k ++ x ∷ except_k) (x ∷ (map f with_k ++ except_k)) (x ∷ map (updated (key_is i z) sets) xs)
+          (Same-middle x (map f with_k) except_k) (Same-cons x (map f with_k ++ except_k) (map (updated (key_is i z) sets) xs) rest))
 
   -- no row of this key
-  none_but : (k : ℕ) (all : List Row) → with_key key k all ≡ [] → but key k all ≡ all
-  none_but k [] none = refl
-  none_but k (x ∷ xs) none = go (key x == k) none (none_but k xs)
+  none_except : (k : ℕ) (all : List Row) → with_key key k all ≡ [] → except key k all ≡ all
+  none_except k [] none = refl
+  none_except k (x ∷ xs) none = go (key x == k) none (none_except k xs)
     where
-      go : (b : Bool) → cond b (x ∷ with_key key k xs) (with_key key k xs) ≡ [] → (with_key key k xs ≡ [] → but key k xs ≡ xs) → cond (not b) (x ∷ but key k xs) (but key k xs) ≡ x ∷ xs
+      go : (b : Bool) → cond b (x ∷ with_key key k xs) (with_key key k xs) ≡ [] → (with_key key k xs ≡ [] → except key k xs ≡ xs) → cond (not b) (x ∷ except key k xs) (except key k xs) ≡ x ∷ xs
       go true none rest = absurd (cc none)
       go false none rest = ap (λ w. x ∷ w) (rest none)
 
@@ -123,13 +123,13 @@ module _ (n i : ℕ) where
       k : ℕ
       k = key_number n z
 
-      go : (k < n) ⊎ (n ≤ k) → Same (cond (nat_lt k n) (list_of (first (with_key key k all)) ++ but key k all) all) all
-      go (inl inside) = let yes = lt-ltb k n inside in rw yes (subst (λ w. Same (w ++ but key k all) all) (one_or_none (with_key key k all) (single k)) (Same-parts key k all))
+      go : (k < n) ⊎ (n ≤ k) → Same (cond (nat_lt k n) (list_of (first (with_key key k all)) ++ except key k all) all) all
+      go (inl inside) = let yes = lt-ltb k n inside in rw yes (subst (λ w. Same (w ++ except key k all) all) (one_or_none (with_key key k all) (single k)) (Same-parts key k all))
       go (inr past) = let no = le-ltb k n past in rw no (Same-refl all)
   applied_steps (Put row) all single range fits =
       let yes : nat_lt (key row) n ≡ true = lt-ltb (key row) n fits.0 in
       let none : with_key key (key row) all ≡ [] = empty_is (with_key key (key row) all) (none_numbered n i row all fits.0 fits.1) in
-      rw yes (rw none (subst (λ w. Same (row ∷ w) (all ++ row ∷ [])) (sym (none_but (key row) all none)) (Same-swapped (row ∷ []) all)))
+      rw yes (rw none (subst (λ w. Same (row ∷ w) (all ++ row ∷ [])) (sym (none_except (key row) all none)) (Same-swapped (row ∷ []) all)))
   applied_steps (Set z sets) all single range fits = go (cases_lt (key_number n z) n)
     where
       k : ℕ
@@ -147,13 +147,13 @@ module _ (n i : ℕ) where
           let off : (key x == k) ≡ false = ne_eqb (key x) k (λ same. omega (arith, low, past, same)) in
           rw off (past_none xs (All-tail (λ (row : Row). row_key n i row < n) x xs range) past)
 
-      go : (k < n) ⊎ (n ≤ k) → Same (cond (nat_lt k n) (list_of (after (Change k (with_cells sets)) (first (with_key key k all))) ++ but key k all) all) (map (updated (key_is i z) sets) all)
-      go (inl inside) = let yes = lt-ltb k n inside in rw yes (subst (λ w. Same (w ++ but key k all) (map (updated (key_is i z) sets) all)) (sym (one (with_key key k all) (single k))) (changed_is z sets all range))
+      go : (k < n) ⊎ (n ≤ k) → Same (cond (nat_lt k n) (list_of (after (Change k (with_cells sets)) (first (with_key key k all))) ++ except key k all) all) (map (updated (key_is i z) sets) all)
+      go (inl inside) = let yes = lt-ltb k n inside in rw yes (subst (λ w. Same (w ++ except key k all) (map (updated (key_is i z) sets) all)) (sym (one (with_key key k all) (single k))) (changed_is z sets all range))
       go (inr past) =
           let no = le-ltb k n past in
           let none = past_none all range past in
-          rw no (subst (λ w. Same w (map (updated (key_is i z) sets) all)) (none_but k all none)
-          (subst (λ w. Same (map (with_cells sets) w ++ but key k all) (map (updated (key_is i z) sets) all)) none (changed_is z sets all range)))
+          rw no (subst (λ w. Same w (map (updated (key_is i z) sets) all)) (none_except k all none)
+          (subst (λ w. Same (map (with_cells sets) w ++ except key k all) (map (updated (key_is i z) sets) all)) none (changed_is z sets all range)))
   applied_steps (Take z) all single range fits = go (cases_lt (key_number n z) n)
     where
       k : ℕ
@@ -166,9 +166,9 @@ module _ (n i : ℕ) where
           let off : (key x == k) ≡ false = ne_eqb (key x) k (λ same. omega (arith, low, past, same)) in
           rw off (past_none xs (All-tail (λ (row : Row). row_key n i row < n) x xs range) past)
 
-      go : (k < n) ⊎ (n ≤ k) → Same (cond (nat_lt k n) (but key k all) all) (filter (λ row. not (is_true (key_is i z) row)) all)
+      go : (k < n) ⊎ (n ≤ k) → Same (cond (nat_lt k n) (except key k all) all) (filter (λ row. not (is_true (key_is i z) row)) all)
       go (inl inside) = let yes = lt-ltb k n inside in rw yes (Same-is _ _ (sym (rest_is z all range)))
-      go (inr past) = let no = le-ltb k n past in rw no (Same-is _ _ (sym (rest_is z all range ∙ none_but k all (past_none all range past))))
+      go (inr past) = let no = le-ltb k n past in rw no (Same-is _ _ (sym (rest_is z all range ∙ none_except k all (past_none all range past))))
 
   keeps : (ask : Ask) (all : List Row) → FitsIndex n i ask all → KeepsKey key (op_of n ask)
   keeps (Set z sets) all fits = λ row. ap (cell_number n) (fits row)
@@ -188,10 +188,10 @@ module _ (n i : ℕ) where
       some : length (with_key key (key row) all) ≡ 0 → ⊥
       some none = let off = none_agree n i row all none in cc (there, off)
 
-      go : (key row < n) ⊎ (n ≤ key row) → Same (cond (nat_lt (key row) n) (list_of (after (Insert row) (first (with_key key (key row) all))) ++ but key (key row) all) all) all
+      go : (key row < n) ⊎ (n ≤ key row) → Same (cond (nat_lt (key row) n) (list_of (after (Insert row) (first (with_key key (key row) all))) ++ except key (key row) all) all) all
       go (inl inside) =
           let yes = lt-ltb (key row) n inside in
-          rw yes (subst (λ w. Same (w ++ but key (key row) all) all) (sym (stays (with_key key (key row) all) (single (key row)) some)) (Same-parts key (key row) all))
+          rw yes (subst (λ w. Same (w ++ except key (key row) all) all) (sym (stays (with_key key (key row) all) (single (key row)) some)) (Same-parts key (key row) all))
       go (inr past) = let no = le-ltb (key row) n past in rw no (Same-refl all)
 
   -- an access that leaves these rows

@@ -69,7 +69,7 @@ last_by_plan p ts (RowsStmt q) r h = go (accessed ts (RowsStmt q)) h
 last_by_plan p ts other r h = absurd (cc h)
 
 -- ---- one statement
--- as the meaning's, but for a refusal that comes last
+-- as the meaning's, except for a refusal that comes last
 answered_last : (p : Public) (r l : Option Refusal) (x y : Answer) → ((q : Refusal) → l ≡ Some q → IsByPlan p (Refused q)) → SameAnswer (answered r x) y
     → SameAnswer (answered (option_or r l) x) y ⊎ IsByPlan p (answered (option_or r l) x)
 answered_last p None None x y by same = inl same
@@ -119,7 +119,7 @@ asked_more s (Ok stmt ∷ texts) bs rooms =
     omega (arith, rest, here, behind)
 asked_more s (Err at ∷ texts) bs rooms = asked_more s texts (rest_of bs) rooms
 
--- of two lots of settings that are the same but for tables and regions, as behind each statement
+-- of two lots of settings that are the same except for tables and regions, as after each statement
 record IsLike (p q : Public) : Type 0 where
   limits : limits_of p ≡ limits_of q
   planner : p.planner ≡ q.planner

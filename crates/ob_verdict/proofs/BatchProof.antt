@@ -1,4 +1,4 @@
--- An INSERT changes what stands at its table's name and leaves each heading, so that others are refused alike behind it.
+-- An INSERT changes what stands at its table's name and leaves each heading, so that others are refused alike after it.
 use Rattle.std.proofs.Common.{◌≡◌, ℕ, Bool, true, false, List, [], ◌∷◌, Option, Some, None, refl, ◌∙◌, ap}
 use Rattle.std.specs.Prelude.{bytes_eq, if◌then◌else◌}
 use Rattle.std.specs.List.{All}

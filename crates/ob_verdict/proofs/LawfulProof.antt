@@ -14,7 +14,7 @@ use Rattle.ob_base.specs.declared.config.Planner.{Planner}
 use Rattle.ob_base.specs.declared.config.Planner.TheVariants.{Auto, Cheapest, Forced}
 use Rattle.ob_base.specs.declared.seen.Seen.{Seen}
 use Rattle.ob_base.specs.declared.seen.End.{End}
-use Rattle.ob_base.specs.declared.seen.End.TheVariants.{Static, Whole, AfterCount, Joined, Cut}
+use Rattle.ob_base.specs.declared.seen.End.TheVariants.{Static, Whole, AfterCount, Batched, Cut}
 use Rattle.ob_base.specs.declared.refusal.Refusal.{Refusal}
 use Rattle.ob_base.specs.declared.schema.Heading.{Heading}
 use Rattle.ob_base.specs.declared.skeleton.ColumnName.{ColumnName}
@@ -332,7 +332,7 @@ same_script p (Rows (Join left right on equals) cs) now end =
     ++ same_select p now end (p.next_region + 1) t (discard_at p.next_region) i))
 same_script p other now end = refl
 
--- the result of a plan is read back behind the count, and a block at least is left to discard
+-- the result of a plan is read back after the count, and a block at least is left to discard
 behind : (counted plan back ending : List Access) (last : Access) → length (counted ++ []) + (length ending + 1) ≤ length (counted ++ ((plan ++ (back ++ last ∷ [])) ++ ([] ++ ending)))
 behind counted plan back ending last =
     let a = length-append counted [] in
@@ -469,7 +469,7 @@ module _ (p : Public) (stmt : Stmt) (n done : ℕ) (within : done ≤ n) (last :
   unplanned k m Static le h = absurd h
   unplanned k m Whole le h = (le, inl h)
   unplanned k m AfterCount le h = (le, inr h.1)
-  unplanned k m Joined le h = absurd h
+  unplanned k m Batched le h = absurd h
   unplanned k m (Cut j) le h = (le, h.1)
 
   uncounted : done < count_end p (skeleton stmt) → Cutting None None None

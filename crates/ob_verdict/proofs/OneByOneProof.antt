@@ -9,7 +9,7 @@ use Rattle.ob_base.specs.declared.refusal.Refusal.TheVariants.{Syntax}
 use Rattle.ob_base.specs.declared.schema.Heading.{Heading}
 use Rattle.ob_base.specs.declared.schema.Table.{Table}
 use Rattle.ob_base.specs.declared.seen.End.{End}
-use Rattle.ob_base.specs.declared.seen.End.TheVariants.{Static, Whole, AfterCount, Joined, Cut}
+use Rattle.ob_base.specs.declared.seen.End.TheVariants.{Static, Whole, AfterCount, Batched, Cut}
 use Rattle.ob_base.specs.declared.seen.Seen.{Seen}
 use Rattle.ob_base.specs.declared.skeleton.Skeleton.{Skeleton}
 use Rattle.ob_base.specs.declared.skeleton.Skeleton.TheVariants.{Create as CreateSkeleton, Insert as InsertSkeleton, Update as UpdateSkeleton, Delete as DeleteSkeleton, Drop as DropSkeleton, Rows, Groups}
@@ -33,7 +33,7 @@ use Rattle.ob_verdict.proofs.MovingProof.{moves}
 use Rattle.ob_verdict.proofs.PlainSettings.{full_same, plain, seen_same, settle_same, verdict_same}
 use Rattle.ob_verdict.specs.OneByOne.{BatchesAnswerAlike}
 
--- ---- what is public of both: the settings, and the tables but for where they lie
+-- ---- what is public of both: the settings, and the tables except for where they lie
 record GoesAlong (p q : Public) : Type 0 where
   settings : plain p ≡ plain q
   headings : headings_of p.tables ≡ headings_of q.tables
@@ -65,7 +65,7 @@ module _ (p q : Public) (along : GoesAlong p q) where
 
   taken_along : (s : Skeleton) (end : End) → draws_taken p s end ≡ draws_taken q s end
   taken_along s Static = refl
-  taken_along s Joined = refl
+  taken_along s Batched = refl
   taken_along s other = drawn_along s
 
   moved_along : (name : List ℕ) → headings_of (moved name p.next_region p.tables) ≡ headings_of (moved name q.next_region q.tables)
@@ -113,7 +113,7 @@ drawn_none p table other names flat = absurd (cc names)
 
 taken_none : (p : Public) (table : List ℕ) (s : Skeleton) (end : End) → Names table s → has_index p table ≡ false → draws_taken p s end ≡ 0
 taken_none p table s Static names flat = refl
-taken_none p table s Joined names flat = refl
+taken_none p table s Batched names flat = refl
 taken_none p table s other names flat = drawn_none p table s names flat
 
 -- ---- what is gathered goes into a flat table

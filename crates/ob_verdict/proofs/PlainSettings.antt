@@ -22,7 +22,7 @@ use Rattle.ob_mean.specs.Settle.{settle, settle_served, settled}
 use Rattle.ob_mean.specs.Step.{accepted_answer, answered, followed, refusal_of, select_condition}
 use Rattle.ob_mean.specs.Verdict.{Accessed, Draws, Tables, accessed, accessed_now, database, ended, forced_refusal, gone, is_full, is_late, last_refusal, plan_for, refusal, refusal_by, rows_refusal, seen, seen_by, seen_served, seen_started, seen_unpadded, seen_with, selected_places, source_slots, unpadded_refusal, verdict}
 
--- what is public but for the tables, the next region and the last closing
+-- what is public except for the tables, the next region and the last closing
 abbrev pub plain : Public → Public
 plain p = record p { tables = []; next_region = 0; closing = None }
 

@@ -308,7 +308,7 @@ shows_plan_alone d e p m ts us a b plan other x y k =
     λ i. record { k = k i; plan = plans i; then = seconds i; leaf = leaves i; end = ends i }
 
 -- ---- the shortest script
--- no Hash, and no end behind the count
+-- no Hash, and no end after the count
 IsPlain : Seen → Type 0
 IsPlain x = (x.plan ≢ Some Hash) × (x.end ≢ AfterCount)
 

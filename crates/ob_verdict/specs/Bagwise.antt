@@ -27,7 +27,7 @@ bag_next (CutAfter n) p db stmt = db
 bag_next With p db stmt = step_next p db stmt
 bag_next CutWith p db stmt = db
 
--- the answers of many texts, and the tables behind them
+-- the answers of many texts, and the tables after them
 abbrev pub bag_answers : Public → Database → List Spelt → Broken → List Answer
 bag_answers p db [] bs = []
 bag_answers p db (Ok stmt ∷ texts) bs = bag_answer (head_of bs) p db stmt ∷ bag_answers p (bag_next (head_of bs) p db stmt) texts (rest_of bs)
@@ -56,7 +56,7 @@ AnswersMeant p (x ∷ xs) [] = ⊥
 AnswersMeant p (x ∷ xs) (y ∷ ys) = (SameAnswer x y ⊎ IsByPlan p x) × AnswersMeant p xs ys
 
 -- the answers of a session over tables in place are those of the session over bags that are the same, and so are the
--- tables behind it
+-- tables after it
 pub record GoesBagwise (s : Session) (db : Database) (texts : List Spelt) (bs : Broken) : Type 0 where
   pub answers : AnswersMeant s.public (answers s texts bs) (bag_answers s.public db texts bs)
   pub after : SameTables (database (after_all s texts bs).tables) (bags_after s.public db texts bs)

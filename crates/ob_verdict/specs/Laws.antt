@@ -6,7 +6,7 @@ use Rattle.ob_base.specs.declared.config.Plan.TheVariants.{Small, Hash}
 use Rattle.ob_base.specs.declared.config.Planner.TheVariants.{Auto, Cheapest}
 use Rattle.ob_base.specs.declared.schema.Shape.{Shape}
 use Rattle.ob_base.specs.declared.schema.Shape.TheVariants.{Flat, Indexed}
-use Rattle.ob_base.specs.declared.seen.End.TheVariants.{Whole, AfterCount, Joined}
+use Rattle.ob_base.specs.declared.seen.End.TheVariants.{Whole, AfterCount, Batched}
 use Rattle.ob_base.specs.declared.refusal.Refusal.TheVariants.{NotConsecutive}
 use Rattle.ob_base.specs.declared.shown.Shown.{Shown}
 use Rattle.ob_base.specs.Indexes.{slots_in_place}
@@ -64,7 +64,7 @@ SettlesAsStep d p m ts stmt =
 abbrev pub IsStarted : Public → ℕ → Tables → Stmt → Type 0
 IsStarted p m ts stmt = early_refusal (is_late m) (limits_of p) (headings ts) stmt ≡ None
 
--- all but a SELECT of rows and an access of an index shows its kind alone, also where a duplicate key, a full table or too
+-- all except a SELECT of rows and an access of an index shows its kind alone, also where a duplicate key, a full table or too
 -- many groups refuse it
 abbrev pub ShowsKindAlone : Type 0
 ShowsKindAlone = (d : Draws) (p : Public) (m : ℕ) (ts : Tables) (stmt : Stmt) → IsStarted p m ts stmt → accessed ts stmt ≡ None → selects_rows stmt ≡ false →
@@ -84,7 +84,7 @@ abbrev pub ShowsPlanAlone : Type 0
 ShowsPlanAlone = (d e : Draws) (p : Public) (m : ℕ) (ts us : Tables) (a b : Stmt) (plan : Plan) → p.planner ≢ Auto →
     (seen d p m ts a).plan ≡ Some plan → (seen e p m us b).plan ≡ Some plan → (seen d p m ts a).k ≡ (seen e p m us b).k → seen d p m ts a ≡ seen e p m us b
 
--- where the shortest script is taken, that is never Hash, and no statement ends behind its count
+-- where the shortest script is taken, that is never Hash, and no statement ends after its count
 abbrev pub CheapestShows : Type 0
 CheapestShows = (d : Draws) (p : Public) (m : ℕ) (ts : Tables) (stmt : Stmt) → p.planner ≡ Cheapest →
     ((seen d p m ts stmt).plan ≢ Some Hash) × ((seen d p m ts stmt).end ≢ AfterCount)
@@ -113,7 +113,7 @@ CutIsLawful = (d : Draws) (p : Public) (m : ℕ) (ts : Tables) (stmt : Stmt) (fa
 
 -- nor does more show of an INSERT that was served with the one before it
 abbrev pub JoinedIsLawful : Type 0
-JoinedIsLawful = (s : Session) (stmt : Stmt) → headings s.tables ≡ headings_of s.public.tables → IsMember s stmt → Lawful s.public s.asked stmt (ended Joined)
+JoinedIsLawful = (s : Session) (stmt : Stmt) → headings s.tables ≡ headings_of s.public.tables → IsMember s stmt → Lawful s.public s.asked stmt (ended Batched)
 
 -- ---- what a SELECT of rows prints from its result
 -- the plan by which the rows are printed: the one after the first, where there is one
@@ -126,7 +126,7 @@ abbrev pub result_plan : Option ℕ → Public → (n : ℕ) → List ℕ → Pl
 result_plan None p n places = last_plan p (plan_for p n places) places
 result_plan (Some pad) p n places = choose_padded p.planner p.pack p.buffer n (padded_rows pad n)
 
--- the result of selecting from these slots, but for the empty slots to which it is padded
+-- the result of selecting from these slots, except for the empty slots to which it is padded
 abbrev pub selected_result : Public → RowTest → Slots → Slots
 selected_result p test slots =
     let places = selected test slots in result_slots (result_plan p.pad p (length slots) places) (length places) (bucket_size p) test slots

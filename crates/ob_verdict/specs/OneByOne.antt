@@ -2,7 +2,7 @@
 use Rattle.std.specs.Prelude.{◌≡◌, ◌<◌, ◌^◌, List, [], None}
 use Rattle.ob_mean.specs.Replay.{Session, Spelt, after_all, answers, hows}
 
--- the same answers, and the same tables behind them, slot by slot
+-- the same answers, and the same tables after them, slot by slot
 pub record AnswersAsOneByOne (s : Session) (texts : List Spelt) : Type 0 where
   pub answers : answers s texts (hows None s texts) ≡ answers s texts []
   pub tables : (after_all s texts (hows None s texts)).tables ≡ (after_all s texts []).tables

@@ -69,7 +69,7 @@ abbrev pub EmitsUntilFault : Stmt → (labels : List (List ℕ)) → List Event 
 EmitsUntilFault (RowsStmt s) labels events = IsBegunAnswer labels events
 EmitsUntilFault _ labels events = events ≡ []
 
--- what is emitted of an answer to a statement: nothing but of rows, and of rows that the store cut off
+-- what is emitted of an answer to a statement: nothing except of rows, and of rows that the store cut off
 abbrev pub Emits : (stmt : Stmt) (labels : List (List ℕ)) → Outcome → List Event → Type 0
 Emits stmt labels (Rows k) events = IsAnswer labels k events
 Emits stmt labels (Refused r) events = by_fault (is_store_fault r) (EmitsUntilFault stmt labels events) (events ≡ [])

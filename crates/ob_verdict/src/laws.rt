@@ -36,7 +36,7 @@ pub fn settles_as_step()
 {}
 
 /// The answers of a session over tables in place are SQL's answers over the same tables as bags, and so are the tables
-/// behind it, until 2^63 accesses were asked or a stash is full; where a plan is forced or results are padded, a SELECT of rows may be
+/// after it, until 2^63 accesses were asked or a stash is full; where a plan is forced or results are padded, a SELECT of rows may be
 /// refused for that alone.
 pub fn sessions_are_bagwise()
     ensures { SessionsAreBagwise }
@@ -70,7 +70,7 @@ pub fn seen_laws()
     ensures joined_is_lawful { JoinedIsLawful }
 {}
 
-/// What is seen of an access that met a full stash is lawful, behind its reads.
+/// What is seen of an access that met a full stash is lawful, after its reads.
 pub fn full_is_lawful()
     ensures { FullIsLawful }
 {}

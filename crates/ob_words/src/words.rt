@@ -72,7 +72,7 @@ pub struct KeptWords {
     pub keep: bool,
 }
 
-/// The same, and whether the tables are to be saved behind each statement that changes them: then they are kept, too, and
+/// The same, and whether the tables are to be saved after each statement that changes them: then they are kept, too, and
 /// the settings say both.
 #[derive(Clone, Copy, Debug, PartialEq, Eq)]
 pub struct SavedWords {
@@ -534,7 +534,7 @@ pub fn read_kept_words(alloc: Global, words: &[String]) -> Result<KeptWords, Wor
     }
 }
 
-/// Reads the words of a program that may keep its tables for the next run, or save them behind each statement that changes
+/// Reads the words of a program that may keep its tables for the next run, or save them after each statement that changes
 /// them, the program's name left out.
 pub fn read_saved_words(alloc: Global, words: &[String]) -> Result<SavedWords, WordsErr>
     ensures ok { IfOk result (λ w. ParsesSaved (map string_bytes words.now) w.common.config) }

@@ -22,9 +22,9 @@ finish-requires g c =
     let is = c.begin-begun.ensures in
     record {
       forgotten = forgotten_then state first rest ⊥ old s mid s1 c.requires.agrees c.requires.settled begun is answer share;
-      may = may_then state first rest ⊥ old s mid s1 c.requires.agrees c.requires.settled begun is answer (g.B.Behind.Saves c.args.behind.now) share c.requires.saves;
+      may = may_then state first rest ⊥ old s mid s1 c.requires.agrees c.requires.settled begun is answer (g.B.Commit.Saves c.args.commit.now) share c.requires.saves;
       wants = saves_then state first rest ⊥ old s mid s1 c.requires.agrees c.requires.settled begun is answer share;
-      saves = able_then state first rest ⊥ old s mid s1 c.requires.agrees c.requires.settled begun is answer (g.B.Behind.Saves c.args.behind.now) c.requires.saves;
+      saves = able_then state first rest ⊥ old s mid s1 c.requires.agrees c.requires.settled begun is answer (g.B.Commit.Saves c.args.commit.now) c.requires.saves;
       counted = counted_then state first rest ⊥ old s mid s1 c.requires.agrees c.requires.settled begun is answer share;
     }
 
@@ -32,8 +32,8 @@ pub returns-clause-ran : goal.returns-clause-ran
 returns-clause-ran g c =
     batch_then g.R.Revisions.state c.args.first.now c.args.rest.now c.insert_batch-answer.new.outcomes c.args.engine.now (g.S.BlockStore.state c.args.store.now)
     c.insert_batch-answer.new.self (g.S.BlockStore.state c.insert_batch-answer.new.store) c.begin-begun.result c.finish.result c.finish.new.engine (g.S.BlockStore.state c.finish.new.store)
-    (g.B.Behind.state c.args.behind.now) (g.B.Behind.state c.finish.new.behind) c.requires.agrees c.requires.settled c.begin-begun.ensures c.requires.batch
-    (g.B.Behind.Saves c.args.behind.now) c.requires.saves c.insert_batch-answer.result c.insert_batch-answer.ensures.serves c.finish.ensures.behind
+    (g.B.Commit.state c.args.commit.now) (g.B.Commit.state c.finish.new.commit) c.requires.agrees c.requires.settled c.begin-begun.ensures c.requires.batch
+    (g.B.Commit.Saves c.args.commit.now) c.requires.saves c.insert_batch-answer.result c.insert_batch-answer.ensures.serves c.finish.ensures.commits
 
 pub returns-clause-saves : goal.returns-clause-saves
 returns-clause-saves g c =
@@ -46,9 +46,9 @@ returns-clause-saves g c =
     let s1 = g.S.BlockStore.state c.insert_batch-answer.new.store in
     let answer = c.insert_batch-answer.result in
     let share = share_batch state first rest answer c.insert_batch-answer.new.outcomes old s mid s1 c.requires.batch c.insert_batch-answer.ensures.serves in
-    may_behind state first rest ⊥ old s mid s1 c.requires.agrees c.requires.settled c.begin-begun.result c.begin-begun.ensures (g.B.Behind.Saves c.args.behind.now) c.requires.saves
-    c.finish.result c.finish.new.engine (g.S.BlockStore.state c.finish.new.store) (g.B.Behind.state c.args.behind.now) (g.B.Behind.state c.finish.new.behind)
-    (g.B.Behind.Saves c.finish.new.behind) answer (is_due c.begin-begun.result.saved answer mid.seen.end) refl share c.finish.ensures.behind c.finish.ensures.stays
+    may_behind state first rest ⊥ old s mid s1 c.requires.agrees c.requires.settled c.begin-begun.result c.begin-begun.ensures (g.B.Commit.Saves c.args.commit.now) c.requires.saves
+    c.finish.result c.finish.new.engine (g.S.BlockStore.state c.finish.new.store) (g.B.Commit.state c.args.commit.now) (g.B.Commit.state c.finish.new.commit)
+    (g.B.Commit.Saves c.finish.new.commit) answer (is_due c.begin-begun.result.saved answer mid.seen.end) refl share c.finish.ensures.commits c.finish.ensures.stays
 
 pub returns-clause-listed : goal.returns-clause-listed
 returns-clause-listed g c =
@@ -61,9 +61,9 @@ returns-clause-listed g c =
     let s1 = g.S.BlockStore.state c.insert_batch-answer.new.store in
     let answer = c.insert_batch-answer.result in
     let share = share_batch state first rest answer c.insert_batch-answer.new.outcomes old s mid s1 c.requires.batch c.insert_batch-answer.ensures.serves in
-    log_then state first rest ⊥ old s mid s1 c.requires.agrees c.requires.settled c.begin-begun.result c.begin-begun.ensures (g.B.Behind.Saves c.args.behind.now) c.requires.saves
-    c.finish.result c.finish.new.engine (g.S.BlockStore.state c.finish.new.store) (g.B.Behind.state c.args.behind.now) (g.B.Behind.state c.finish.new.behind)
-    answer (is_due c.begin-begun.result.saved answer mid.seen.end) refl share c.finish.ensures.behind
+    log_then state first rest ⊥ old s mid s1 c.requires.agrees c.requires.settled c.begin-begun.result c.begin-begun.ensures (g.B.Commit.Saves c.args.commit.now) c.requires.saves
+    c.finish.result c.finish.new.engine (g.S.BlockStore.state c.finish.new.store) (g.B.Commit.state c.args.commit.now) (g.B.Commit.state c.finish.new.commit)
+    answer (is_due c.begin-begun.result.saved answer mid.seen.end) refl share c.finish.ensures.commits
 
 pub returns-clause-given_up : goal.returns-clause-given_up
 returns-clause-given_up g c = λ is.
@@ -77,6 +77,6 @@ returns-clause-given_up g c = λ is.
     let answer = c.insert_batch-answer.result in
     let share = share_batch state first rest answer c.insert_batch-answer.new.outcomes old s mid s1 c.requires.batch c.insert_batch-answer.ensures.serves in
     let answered : answer ≡ Ok (Refused StoreFault) = answered_so g.R.Revisions.state (is_due c.begin-begun.result.saved answer mid.seen.end) c.begin-begun.result answer c.finish.result mid s1 c.finish.new.engine (g.S.BlockStore.state c.finish.new.store)
-    (g.B.Behind.state c.args.behind.now) (g.B.Behind.state c.finish.new.behind) (Refused StoreFault) c.finish.ensures.behind is in
+    (g.B.Commit.state c.args.commit.now) (g.B.Commit.state c.finish.new.commit) (Refused StoreFault) c.finish.ensures.commits is in
     let undue = undue_then state first rest ⊥ old s mid s1 c.requires.agrees c.requires.settled c.begin-begun.result c.begin-begun.ensures answer share answered in
     subst (λ (q : ℕ). GaveUpFrom q (g.S.BlockStore.given_up c.finish.new.store) (g.S.BlockStore.state c.finish.new.store)) c.begin-begun.ensures.next (c.finish.ensures.given_up undue is)

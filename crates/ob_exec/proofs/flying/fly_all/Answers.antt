@@ -47,12 +47,12 @@ pub returns-then-is_err-clause-ran : goal.returns-then-is_err-clause-ran
 returns-then-is_err-clause-ran g c =
     let old = c.args.engine.now in
     let s = g.S.BlockStore.state c.args.store.now in
-    let s1 = g.S.BlockStore.state c.room.new.self in
+    let s1 = g.S.BlockStore.state c.reserve.new.self in
     let stmts = c.args.stmts.now in
     let seens = c.see_first.ensures ∙ ap (λ (late : Bool). map (seen_first late old.public) stmts) (late_same (count_of old s) c.spent-late.result c.spent-late.ensures) in
     subst (λ (xs : List Seen). RanFlight {T = Unit {0}} g.R.Revisions.state g.E.Emit.grew g.E.Emit.cut g.E.FlightOut.closed g.E.FlightOut.parted g.E.Emit.faults (g.T.Turns.word c.args.turns.now)
     (g.T.Turns.word c.args.turns.now) stmts xs (Err Stops.NoMemory) old s (engine_behind old old.vault old.room true) s1 c.args.out.now c.args.out.now) (sym seens)
-    (flight_unasked g.R.Revisions.state g.E.Emit.grew g.E.Emit.cut g.E.FlightOut.closed g.E.FlightOut.parted g.E.Emit.faults g.met.E.Emit.starts old s s1 c.requires.agrees c.room.ensures.rests stmts c.requires.flight
+    (flight_unasked g.R.Revisions.state g.E.Emit.grew g.E.Emit.cut g.E.FlightOut.closed g.E.FlightOut.parted g.E.Emit.faults g.met.E.Emit.starts old s s1 c.requires.agrees c.reserve.ensures.rests stmts c.requires.flight
     (g.T.Turns.word c.args.turns.now) (g.T.Turns.word c.args.turns.now) c.args.out.now)
 
 pub fly_in_room-flown-requires-clause-rows : goal.fly_in_room-flown-requires-clause-rows
@@ -74,7 +74,7 @@ fly_in_room-flown-requires-clause-boarded g c =
     let state = g.R.Revisions.state in
     let old = c.args.engine.now in
     let s = g.S.BlockStore.state c.args.store.now in
-    let s1 = g.S.BlockStore.state c.room.new.self in
+    let s1 = g.S.BlockStore.state c.reserve.new.self in
     let stmts = c.args.stmts.now in
     let n = length stmts in
     let buffer = old.public.buffer in
@@ -82,20 +82,20 @@ fly_in_room-flown-requires-clause-boarded g c =
     let late = late_same (count_of old s) c.spent-late.result c.spent-late.ensures in
     let aboard = subst (λ (b : Bool). AreAboard b n old.public stmts flights) late
     (subst (λ (fs : List Flight). AreAboard (nat_le (2 ^ 63) c.spent-late.result) n old.public stmts fs) (sym c.deref_mut.ensures.value) c.in-Ok.ensures) in
-    let spare = at_ok c.room.result _ (sym c.is_err.ensures.value ∙ c.if-is_err.false) c.room.ensures.spare in
+    let spare = at_ok c.reserve.result _ (sym c.is_err.ensures.value ∙ c.if-is_err.false) c.reserve.ensures.spare in
     let same : c.deref.result.now ≡ flights = c.deref.ensures.value ∙ sym c.deref_mut.ensures.value in
-    let booked = c.booked_by.ensures ∙ ap (λ (fs : List Flight). Rattle.ob_inflight.specs.Aloft.booked_by flight_kind fs) same in
+    let booked = c.booked_by.ensures ∙ ap (λ (fs : List Flight). Rattle.ob_inflight.specs.AfterTurns.booked_by flight_kind fs) same in
     let from = c.from-pack.ensures in
     subst (λ (pack : ℕ). MaySetOff flight_kind pack ((buffer / n - 2 * c.from-pack.result) / c.from-pack.result * c.from-pack.result) flights (world_of state old s1)) (sym c.requires.agrees.room.pack)
     (subst (λ (share : ℕ). MaySetOff flight_kind old.public.pack share flights (world_of state old s1)) (λ i. (buffer / n - 2 * sym from i) / sym from i * sym from i)
-    (may_set_off state old s s1 c.requires.agrees c.room.ensures.rests stmts c.requires.flight flights aboard (omega (arith, booked, spare))))
+    (may_set_off state old s s1 c.requires.agrees c.reserve.ensures.rests stmts c.requires.flight flights aboard (omega (arith, booked, spare))))
 
 pub returns-clause-ran : goal.returns-clause-ran
 returns-clause-ran g c =
     let state = g.R.Revisions.state in
     let old = c.args.engine.now in
     let s = g.S.BlockStore.state c.args.store.now in
-    let s1 = g.S.BlockStore.state c.room.new.self in
+    let s1 = g.S.BlockStore.state c.reserve.new.self in
     let t = g.S.BlockStore.state c.fly_in_room-flown.new.store in
     let stmts = c.args.stmts.now in
     let n = length stmts in
@@ -112,6 +112,6 @@ returns-clause-ran g c =
     let result = c.fly_in_room-flown.result in
     subst (λ (xs : List Seen). RanFlight {T = Unit {0}} state g.E.Emit.grew g.E.Emit.cut g.E.FlightOut.closed g.E.FlightOut.parted g.E.Emit.faults (g.T.Turns.word c.args.turns.now)
     (g.T.Turns.word c.fly_in_room-flown.new.turns) stmts xs (halted result) old s (engine_behind old v room (Rattle.std.specs.Result.is_err result)) t c.args.out.now c.fly_in_room-flown.new.out) (sym seens)
-    (flies_by state g.E.Emit.grew g.E.Emit.cut g.E.FlightOut.closed g.E.FlightOut.parted g.E.Emit.faults old s s1 c.requires.agrees c.room.ensures.rests stmts c.requires.flight flights fs aboard
+    (flies_by state g.E.Emit.grew g.E.Emit.cut g.E.FlightOut.closed g.E.FlightOut.parted g.E.Emit.faults old s s1 c.requires.agrees c.reserve.ensures.rests stmts c.requires.flight flights fs aboard
     (g.T.Turns.word c.args.turns.now) (g.T.Turns.word c.fly_in_room-flown.new.turns) share (length flights * share) v room t c.fly_in_room-flown.ensures.room c.args.out.now c.fly_in_room-flown.new.out
     result c.fly_in_room-flown.ensures.flown c.fly_in_room-flown.ensures.stopped c.fly_in_room-flown.ensures.sink)

@@ -3,7 +3,7 @@ use Rattle.ob_tables.proofs.GivenUpLemmas.{none_more}
 use Rattle.ob_vault.specs.State.{HasNoneFrom}
 use Rattle.ob_exec.proofs.flying.run_flight.Goals as goal
 
--- behind a flight that nothing stopped the vault has none of the regions that it made
+-- after a flight that nothing stopped the vault has none of the regions that it made
 pub give_up-requires : goal.give_up-requires
 give_up-requires g c =
     let old = c.args.engine.now in

@@ -46,7 +46,7 @@ returns-then-is_err-clause-selects g c =
     let y = join_of c.args.select.now c.requires.agrees c.requires.allowed c.in-Join.is c.table_at-left.ensures c.table_at-right.ensures in
     record {
       ended = tt;
-      halted = halts_first g.E.Emit.grew g.E.Emit.cut c.args.engine.now.public c.args.select.now c.args.seen.now _ (g.S.BlockStore.state c.args.store.now) _ c.args.out.now c.requires.agrees.ready c.room.ensures.rests c.requires.fresh (join_some y) c.requires.flat;
+      halted = halts_first g.E.Emit.grew g.E.Emit.cut c.args.engine.now.public c.args.select.now c.args.seen.now _ (g.S.BlockStore.state c.args.store.now) _ c.args.out.now c.requires.agrees.ready c.reserve.ensures.rests c.requires.fresh (join_some y) c.requires.flat;
       sink = refl;
     }
 
@@ -68,8 +68,8 @@ overflow_add-accesses g c =
 pub join-requires-clause-starts : goal.join-requires-clause-starts
 join-requires-clause-starts g c =
     let y = join_of c.args.select.now c.requires.agrees c.requires.allowed c.in-Join.is c.table_at-left.ensures c.table_at-right.ensures in
-    let spare = at_ok c.room.result _ (sym c.is_err.ensures.value ∙ c.if-is_err.false) c.room.ensures.spare in
-    join_starts y _ c.left_place-lcol.result c.right_place-rcol.result c.join_accesses-accesses.result c.padded_length-padded.result c.room.ensures.rests c.join_accesses-accesses.ensures spare
+    let spare = at_ok c.reserve.result _ (sym c.is_err.ensures.value ∙ c.if-is_err.false) c.reserve.ensures.spare in
+    join_starts y _ c.left_place-lcol.result c.right_place-rcol.result c.join_accesses-accesses.result c.padded_length-padded.result c.reserve.ensures.rests c.join_accesses-accesses.ensures spare
 
 pub join-requires-clause-tables : goal.join-requires-clause-tables
 join-requires-clause-tables g c =
@@ -78,7 +78,7 @@ join-requires-clause-tables g c =
     let others = c.as_slice-others.ensures.value in
     let lcol_is = c.left_place-lcol.ensures.value ∙ (λ k. left_place (length (columns k)) (columns k ++ others k) c.in-Join.on c.in-Join.equals) in
     let rcol_is = c.right_place-rcol.ensures.value ∙ (λ k. right_place (length (columns k)) (columns k ++ others k) c.in-Join.on c.in-Join.equals) in
-    join_may y _ _ _ c.room.ensures.rests lcol_is rcol_is
+    join_may y _ _ _ c.reserve.ensures.rests lcol_is rcol_is
 
 pub join-requires-clause-room : goal.join-requires-clause-room
 join-requires-clause-room g c =
@@ -93,8 +93,8 @@ returns-in-Err-clause-selects g c =
     let lcol_is = c.left_place-lcol.ensures.value ∙ (λ k. left_place (length (columns k)) (columns k ++ others k) c.in-Join.on c.in-Join.equals) in
     let rcol_is = c.right_place-rcol.ensures.value ∙ (λ k. right_place (length (columns k)) (columns k ++ others k) c.in-Join.on c.in-Join.equals) in
     let after = at g.R.Revisions.state c.join.new.vault (g.S.BlockStore.state c.join.new.store) in
-    let z : IsPaired y c.left_place-lcol.result c.right_place-rcol.result (g.S.BlockStore.state c.room.new.self) (Err c.in-Err.error) after =
-    record { lcol_is = lcol_is; rcol_is = rcol_is; rests = c.room.ensures.rests; paired = c.in-Err.ensures.joins; told = c.in-Err.ensures.told } in
+    let z : IsPaired y c.left_place-lcol.result c.right_place-rcol.result (g.S.BlockStore.state c.reserve.new.self) (Err c.in-Err.error) after =
+    record { lcol_is = lcol_is; rcol_is = rcol_is; rests = c.reserve.ensures.rests; paired = c.in-Err.ensures.joins; told = c.in-Err.ensures.told } in
     join_stops y z g.E.Emit.grew g.E.Emit.cut g.E.Emit.faults c.args.seen.now c.args.out.now c.requires.fresh
 
 pub select_from-requires-clause-may : goal.select_from-requires-clause-may
@@ -105,11 +105,11 @@ select_from-requires-clause-may g c =
     let lcol_is = c.left_place-lcol.ensures.value ∙ (λ k. left_place (length (columns k)) (columns k ++ others k) c.in-Join.on c.in-Join.equals) in
     let rcol_is = c.right_place-rcol.ensures.value ∙ (λ k. right_place (length (columns k)) (columns k ++ others k) c.in-Join.on c.in-Join.equals) in
     let after = at g.R.Revisions.state c.join.new.vault (g.S.BlockStore.state c.join.new.store) in
-    let z : IsPaired y c.left_place-lcol.result c.right_place-rcol.result (g.S.BlockStore.state c.room.new.self) (Ok c.in-Ok-join.joined) after =
-    record { lcol_is = lcol_is; rcol_is = rcol_is; rests = c.room.ensures.rests; paired = c.in-Ok-join.ensures.joins; told = c.in-Ok-join.ensures.told } in
+    let z : IsPaired y c.left_place-lcol.result c.right_place-rcol.result (g.S.BlockStore.state c.reserve.new.self) (Ok c.in-Ok-join.joined) after =
+    record { lcol_is = lcol_is; rcol_is = rcol_is; rests = c.reserve.ensures.rests; paired = c.in-Ok-join.ensures.joins; told = c.in-Ok-join.ensures.told } in
     let is = join_query y c.left_place-lcol.result c.right_place-rcol.result c.in-Ok-join.joined c.in-Ok.pred c.as_slice.result.now c.as_slice-columns.result.now c.as_slice-others.result.now z.paired.makes.value
     columns others c.in-Ok.ensures (c.as_slice.ensures.value ∙ c.printed_places-cols.ensures) in
-    let spare = at_ok c.room.result _ (sym c.is_err.ensures.value ∙ c.if-is_err.false) c.room.ensures.spare in
+    let spare = at_ok c.reserve.result _ (sym c.is_err.ensures.value ∙ c.if-is_err.false) c.reserve.ensures.spare in
     let may = join_selects y c.join.new.room _ c.join_accesses-accesses.result c.padded_length-padded.result z c.join.ensures.room c.join_accesses-accesses.ensures
     (λ x same size. c.padded_length-padded.ensures.length x same (size ∙ sym c.joined_slots.ensures)) spare in
     subst (λ (x : Selection). MaySelect x c.join.new.room after) (sym is) may
@@ -130,8 +130,8 @@ returns-in-Ok-select_from-clause-selects g c =
     let lcol_is = c.left_place-lcol.ensures.value ∙ (λ k. left_place (length (columns k)) (columns k ++ others k) c.in-Join.on c.in-Join.equals) in
     let rcol_is = c.right_place-rcol.ensures.value ∙ (λ k. right_place (length (columns k)) (columns k ++ others k) c.in-Join.on c.in-Join.equals) in
     let after = at g.R.Revisions.state c.join.new.vault (g.S.BlockStore.state c.join.new.store) in
-    let z : IsPaired y c.left_place-lcol.result c.right_place-rcol.result (g.S.BlockStore.state c.room.new.self) (Ok c.in-Ok-join.joined) after =
-    record { lcol_is = lcol_is; rcol_is = rcol_is; rests = c.room.ensures.rests; paired = c.in-Ok-join.ensures.joins; told = c.in-Ok-join.ensures.told } in
+    let z : IsPaired y c.left_place-lcol.result c.right_place-rcol.result (g.S.BlockStore.state c.reserve.new.self) (Ok c.in-Ok-join.joined) after =
+    record { lcol_is = lcol_is; rcol_is = rcol_is; rests = c.reserve.ensures.rests; paired = c.in-Ok-join.ensures.joins; told = c.in-Ok-join.ensures.told } in
     let is = join_query y c.left_place-lcol.result c.right_place-rcol.result c.in-Ok-join.joined c.in-Ok.pred c.as_slice.result.now c.as_slice-columns.result.now c.as_slice-others.result.now z.paired.makes.value
     columns others c.in-Ok.ensures (c.as_slice.ensures.value ∙ c.printed_places-cols.ensures) in
     let end = at g.R.Revisions.state c.select_from.new.vault (g.S.BlockStore.state c.select_from.new.store) in
@@ -155,8 +155,8 @@ returns-clause-selects g c =
     let lcol_is = c.left_place-lcol.ensures.value ∙ (λ k. left_place (length (columns k)) (columns k ++ others k) c.in-Join.on c.in-Join.equals) in
     let rcol_is = c.right_place-rcol.ensures.value ∙ (λ k. right_place (length (columns k)) (columns k ++ others k) c.in-Join.on c.in-Join.equals) in
     let after = at g.R.Revisions.state c.join.new.vault (g.S.BlockStore.state c.join.new.store) in
-    let z : IsPaired y c.left_place-lcol.result c.right_place-rcol.result (g.S.BlockStore.state c.room.new.self) (Ok c.in-Ok-join.joined) after =
-    record { lcol_is = lcol_is; rcol_is = rcol_is; rests = c.room.ensures.rests; paired = c.in-Ok-join.ensures.joins; told = c.in-Ok-join.ensures.told } in
+    let z : IsPaired y c.left_place-lcol.result c.right_place-rcol.result (g.S.BlockStore.state c.reserve.new.self) (Ok c.in-Ok-join.joined) after =
+    record { lcol_is = lcol_is; rcol_is = rcol_is; rests = c.reserve.ensures.rests; paired = c.in-Ok-join.ensures.joins; told = c.in-Ok-join.ensures.told } in
     let is = join_query y c.left_place-lcol.result c.right_place-rcol.result c.in-Ok-join.joined c.in-Ok.pred c.as_slice.result.now c.as_slice-columns.result.now c.as_slice-others.result.now z.paired.makes.value
     columns others c.in-Ok.ensures (c.as_slice.ensures.value ∙ c.printed_places-cols.ensures) in
     let end = at g.R.Revisions.state c.select_from.new.vault (g.S.BlockStore.state c.select_from.new.store) in

@@ -32,12 +32,12 @@ returns-then-is_err-clause-selects g c =
     let old = c.args.engine.now in
     let state = g.R.Revisions.state in
     let s = g.S.BlockStore.state c.args.store.now in
-    let s1 = g.S.BlockStore.state c.room.new.self in
+    let s1 = g.S.BlockStore.state c.reserve.new.self in
     let found = c.table_at-flat.ensures in
     let here = found.here in
     record {
       ended = tt;
-      halted = halts_first g.E.Emit.grew g.E.Emit.cut old.public c.args.select.now c.args.seen.now (world_of state old s).vault s s1 c.args.out.now c.requires.agrees.ready c.room.ensures.rests c.requires.fresh
+      halted = halts_first g.E.Emit.grew g.E.Emit.cut old.public c.args.select.now c.args.seen.now (world_of state old s).vault s s1 c.args.out.now c.requires.agrees.ready c.reserve.ensures.rests c.requires.fresh
           (counts_some state old s s1 c.table_at-flat.result.0 found.table c.args.table.now c.args.select.now c.requires.agrees here.get here.named c.requires.source c.requires.flat) c.requires.flat;
       sink = refl;
     }
@@ -47,15 +47,15 @@ select_from-requires-clause-may g c =
     let old = c.args.engine.now in
     let state = g.R.Revisions.state in
     let s = g.S.BlockStore.state c.args.store.now in
-    let s1 = g.S.BlockStore.state c.room.new.self in
+    let s1 = g.S.BlockStore.state c.reserve.new.self in
     let found = c.table_at-flat.ensures in
     let here = found.here in
     let flat_is = found.is in
     let is = table_query state old s s1 c.table_at-flat.result.0 found.table c.args.table.now c.args.select.now c.requires.agrees here.get here.named c.requires.source c.requires.flat
     c.table_at-flat.result.1 c.in-Ok.pred c.as_slice.result.now c.as_slice-columns.result.now flat_is c.as_slice-columns.ensures.value c.in-Ok.ensures
     (c.as_slice.ensures.value ∙ c.printed_places-cols.ensures) in
-    let spare = at_ok c.room.result _ (sym c.is_err.ensures.value ∙ c.if-is_err.false) c.room.ensures.spare in
-    let may = table_may state old s s1 c.table_at-flat.result.0 found.table c.args.table.now c.args.select.now c.requires.agrees here.get here.named c.requires.source c.requires.flat c.requires.allowed c.room.ensures.rests
+    let spare = at_ok c.reserve.result _ (sym c.is_err.ensures.value ∙ c.if-is_err.false) c.reserve.ensures.spare in
+    let may = table_may state old s s1 c.table_at-flat.result.0 found.table c.args.table.now c.args.select.now c.requires.agrees here.get here.named c.requires.source c.requires.flat c.requires.allowed c.reserve.ensures.rests
     c.from-blocks.result c.padded_length-padded.result (c.from-blocks.ensures ∙ c.div_ceil.ensures ∙ (λ j. div_ceil (flat_is j).capacity (c.from.ensures j)))
     (λ x same size. c.padded_length-padded.ensures.length x same (size ∙ ap (λ (f : Flat). f.capacity) (sym flat_is))) spare in
     subst (λ (x : Selection). MaySelect x old.room (at state old.vault s1)) (sym is) may
@@ -65,7 +65,7 @@ returns-clause-selects g c =
     let old = c.args.engine.now in
     let state = g.R.Revisions.state in
     let s = g.S.BlockStore.state c.args.store.now in
-    let s1 = g.S.BlockStore.state c.room.new.self in
+    let s1 = g.S.BlockStore.state c.reserve.new.self in
     let v = c.select_from.new.vault in
     let u = g.S.BlockStore.state c.select_from.new.store in
     let now = c.select_from.new.seen in
@@ -77,5 +77,5 @@ returns-clause-selects g c =
     (c.as_slice.ensures.value ∙ c.printed_places-cols.ensures) in
     let selects = subst (λ (x : Selection). SelectsFrom g.E.Emit.grew g.E.Emit.cut g.E.Emit.faults x c.select_from.result now (at state old.vault s1) (at state v u) c.args.out.now c.select_from.new.out)
     is c.select_from.ensures.selects in
-    table_selects state old s s1 c.table_at-flat.result.0 found.table c.args.table.now c.args.select.now c.requires.agrees here.get here.named c.requires.source c.requires.flat v u c.room.ensures.rests
+    table_selects state old s s1 c.table_at-flat.result.0 found.table c.args.table.now c.args.select.now c.requires.agrees here.get here.named c.requires.source c.requires.flat v u c.reserve.ensures.rests
     g.E.Emit.grew g.E.Emit.cut g.E.Emit.faults now c.args.out.now c.select_from.new.out c.select_from.result selects

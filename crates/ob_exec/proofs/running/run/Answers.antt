@@ -18,9 +18,9 @@ finish-requires g c =
     let begun = c.begin-begun.ensures in
     record {
       forgotten = forgotten_then g.R.Revisions.state c.args.stmt.now [] halts old s mid s1 c.requires.agrees c.requires.settled c.begin-begun.result begun answer share;
-      may = may_then g.R.Revisions.state c.args.stmt.now [] halts old s mid s1 c.requires.agrees c.requires.settled c.begin-begun.result begun answer (g.B.Behind.Saves c.args.behind.now) share c.requires.saves;
+      may = may_then g.R.Revisions.state c.args.stmt.now [] halts old s mid s1 c.requires.agrees c.requires.settled c.begin-begun.result begun answer (g.B.Commit.Saves c.args.commit.now) share c.requires.saves;
       wants = saves_then g.R.Revisions.state c.args.stmt.now [] halts old s mid s1 c.requires.agrees c.requires.settled c.begin-begun.result begun answer share;
-      saves = able_then g.R.Revisions.state c.args.stmt.now [] halts old s mid s1 c.requires.agrees c.requires.settled c.begin-begun.result begun answer (g.B.Behind.Saves c.args.behind.now) c.requires.saves;
+      saves = able_then g.R.Revisions.state c.args.stmt.now [] halts old s mid s1 c.requires.agrees c.requires.settled c.begin-begun.result begun answer (g.B.Commit.Saves c.args.commit.now) c.requires.saves;
       counted = counted_then g.R.Revisions.state c.args.stmt.now [] halts old s mid s1 c.requires.agrees c.requires.settled c.begin-begun.result begun answer share;
     }
 
@@ -28,7 +28,7 @@ pub returns-clause-ran : goal.returns-clause-ran
 returns-clause-ran g c =
     ran_then g.R.Revisions.state g.E.Emit.grew g.E.Emit.cut g.E.Emit.faults c.args.stmt.now c.args.engine.now (g.S.BlockStore.state c.args.store.now) c.serve-answer.new.engine (g.S.BlockStore.state c.serve-answer.new.store)
     c.args.out.now c.serve-answer.new.out c.requires.agrees c.requires.settled c.begin-begun.result c.begin-begun.ensures c.finish.result c.finish.new.engine (g.S.BlockStore.state c.finish.new.store)
-    (g.B.Behind.state c.args.behind.now) (g.B.Behind.state c.finish.new.behind) (g.B.Behind.Saves c.args.behind.now) c.requires.saves c.serve-answer.result c.serve-answer.ensures.serves c.serve-answer.ensures.shows c.finish.ensures.behind
+    (g.B.Commit.state c.args.commit.now) (g.B.Commit.state c.finish.new.commit) (g.B.Commit.Saves c.args.commit.now) c.requires.saves c.serve-answer.result c.serve-answer.ensures.serves c.serve-answer.ensures.shows c.finish.ensures.commits
 
 pub returns-clause-saves : goal.returns-clause-saves
 returns-clause-saves g c =
@@ -39,9 +39,9 @@ returns-clause-saves g c =
     let answer = c.serve-answer.result in
     let halts = HasHalted g.E.Emit.cut c.args.out.now c.serve-answer.new.out in
     let share = share_alone g.R.Revisions.state g.E.Emit.grew g.E.Emit.cut g.E.Emit.faults c.args.stmt.now answer old s mid s1 c.args.out.now c.serve-answer.new.out c.serve-answer.ensures.serves c.serve-answer.ensures.shows in
-    may_behind g.R.Revisions.state c.args.stmt.now [] halts old s mid s1 c.requires.agrees c.requires.settled c.begin-begun.result c.begin-begun.ensures (g.B.Behind.Saves c.args.behind.now) c.requires.saves
-    c.finish.result c.finish.new.engine (g.S.BlockStore.state c.finish.new.store) (g.B.Behind.state c.args.behind.now) (g.B.Behind.state c.finish.new.behind)
-    (g.B.Behind.Saves c.finish.new.behind) answer (is_due c.begin-begun.result.saved answer mid.seen.end) refl share c.finish.ensures.behind c.finish.ensures.stays
+    may_behind g.R.Revisions.state c.args.stmt.now [] halts old s mid s1 c.requires.agrees c.requires.settled c.begin-begun.result c.begin-begun.ensures (g.B.Commit.Saves c.args.commit.now) c.requires.saves
+    c.finish.result c.finish.new.engine (g.S.BlockStore.state c.finish.new.store) (g.B.Commit.state c.args.commit.now) (g.B.Commit.state c.finish.new.commit)
+    (g.B.Commit.Saves c.finish.new.commit) answer (is_due c.begin-begun.result.saved answer mid.seen.end) refl share c.finish.ensures.commits c.finish.ensures.stays
 
 pub returns-clause-given_up : goal.returns-clause-given_up
 returns-clause-given_up g c = λ is.
@@ -53,6 +53,6 @@ returns-clause-given_up g c = λ is.
     let halts = HasHalted g.E.Emit.cut c.args.out.now c.serve-answer.new.out in
     let share = share_alone g.R.Revisions.state g.E.Emit.grew g.E.Emit.cut g.E.Emit.faults c.args.stmt.now answer old s mid s1 c.args.out.now c.serve-answer.new.out c.serve-answer.ensures.serves c.serve-answer.ensures.shows in
     let answered : answer ≡ Ok (Refused StoreFault) = answered_so g.R.Revisions.state (is_due c.begin-begun.result.saved answer mid.seen.end) c.begin-begun.result answer c.finish.result mid s1 c.finish.new.engine (g.S.BlockStore.state c.finish.new.store)
-    (g.B.Behind.state c.args.behind.now) (g.B.Behind.state c.finish.new.behind) (Refused StoreFault) c.finish.ensures.behind is in
+    (g.B.Commit.state c.args.commit.now) (g.B.Commit.state c.finish.new.commit) (Refused StoreFault) c.finish.ensures.commits is in
     let undue = undue_then g.R.Revisions.state c.args.stmt.now [] halts old s mid s1 c.requires.agrees c.requires.settled c.begin-begun.result c.begin-begun.ensures answer share answered in
     subst (λ (q : ℕ). GaveUpFrom q (g.S.BlockStore.given_up c.finish.new.store) (g.S.BlockStore.state c.finish.new.store)) c.begin-begun.ensures.next (c.finish.ensures.given_up undue is)

@@ -1,10 +1,10 @@
 use Rattle.ob_exec.proofs.Words.{Access, ap, arith, Bool, End, ended_at, Err, is_due, length, length-append, List, Ok, Outcome, refl, Result, RunStop, SavesTables, Seen, StoreState, subst, sym, ℕ, ◌&&◌, ◌++◌, ◌-◌, ◌∙◌, ◌≡◌, ◌≤◌}
-use Rattle.ob_exec.specs.Behind.{SavesBehind}
+use Rattle.ob_exec.specs.Commits.{CommitsIfDue}
 use Rattle.ob_exec.specs.Ran.{is_whole}
 use Rattle.ob_exec.specs.Saving.{MayBeSaved}
 use Rattle.ob_exec.proofs.saving.finish.Goals as goal
 
--- whether tables are due to be saved behind a statement that was answered
+-- whether tables are due to be saved after a statement that was answered
 due_is : (saved now : Bool) (answer : Result Outcome RunStop) (outcome : Outcome) (end : End) → answer ≡ Ok outcome → now ≡ (is_whole end && saved) → is_due saved answer end ≡ now
 due_is saved now answer outcome end is now_is = ap (λ (a : Result Outcome RunStop). is_due saved a end) is ∙ sym now_is
 
@@ -15,26 +15,26 @@ longer n first more last within is =
     let parts = length-append first more in
     omega (arith, within, long, parts)
 
-pub returns-in-Err-clause-behind : goal.returns-in-Err-clause-behind
-returns-in-Err-clause-behind g c =
+pub returns-in-Err-clause-commits : goal.returns-in-Err-clause-commits
+returns-in-Err-clause-commits g c =
     let e = c.args.engine.now in
     let s = g.S.BlockStore.state c.args.store.now in
-    let k = g.B.Behind.state c.args.behind.now in
-    subst (λ (a : Result Outcome RunStop). SavesBehind g.R.Revisions.state (is_due c.args.begun.saved a e.seen.end) c.args.begun a (Err c.in-Err.stop) e s e s k k) (sym c.in-Err.is)
+    let k = g.B.Commit.state c.args.commit.now in
+    subst (λ (a : Result Outcome RunStop). CommitsIfDue g.R.Revisions.state (is_due c.args.begun.saved a e.seen.end) c.args.begun a (Err c.in-Err.stop) e s e s k k) (sym c.in-Err.is)
     (record { answer_is = refl; engine_is = refl; store_is = refl; keeper_is = refl })
 
 pub leave_forgotten-requires : goal.leave_forgotten-requires
 leave_forgotten-requires g c = record { forgotten = λ is. c.requires.forgotten (c.in-Ok.is ∙ ap (λ (o : Outcome). Ok o) is) }
 
-pub returns-then-not-is_saved_behind-clause-behind : goal.returns-then-not-is_saved_behind-clause-behind
-returns-then-not-is_saved_behind-clause-behind g c =
+pub returns-then-not-is_saved_behind-clause-commits : goal.returns-then-not-is_saved_behind-clause-commits
+returns-then-not-is_saved_behind-clause-commits g c =
     let e = c.args.engine.now in
     let s = g.S.BlockStore.state c.args.store.now in
-    let k = g.B.Behind.state c.args.behind.now in
+    let k = g.B.Commit.state c.args.commit.now in
     let t = g.S.BlockStore.state c.leave_forgotten.new.store in
     let now_is : c.is_saved_behind.result ≡ (is_whole e.seen.end && c.args.begun.saved) = c.is_saved_behind.ensures ∙ ap (λ (x : Seen). is_whole x.end && c.args.begun.saved) c.seen.ensures in
     let due = due_is c.args.begun.saved c.is_saved_behind.result c.args.answer c.in-Ok.outcome e.seen.end c.in-Ok.is now_is ∙ c.if-not-is_saved_behind.true in
-    subst (λ (b : Bool). SavesBehind g.R.Revisions.state b c.args.begun c.args.answer (Ok c.in-Ok.outcome) e s e t k k) (sym due)
+    subst (λ (b : Bool). CommitsIfDue g.R.Revisions.state b c.args.begun c.args.answer (Ok c.in-Ok.outcome) e s e t k k) (sym due)
     (record { answer_is = sym c.in-Ok.is; engine_is = refl; store_is = c.leave_forgotten.ensures.same; keeper_is = refl })
 
 pub save-requires : goal.save-requires
@@ -47,17 +47,17 @@ save-requires g c =
       saves = λ is. c.requires.saves due;
     }
 
-pub returns-in-Ok-save-clause-behind : goal.returns-in-Ok-save-clause-behind
-returns-in-Ok-save-clause-behind g c =
+pub returns-in-Ok-save-clause-commits : goal.returns-in-Ok-save-clause-commits
+returns-in-Ok-save-clause-commits g c =
     let e = c.args.engine.now in
     let s = g.S.BlockStore.state c.args.store.now in
-    let k0 = g.B.Behind.state c.args.behind.now in
-    let k1 = g.B.Behind.state c.save.new.self in
+    let k0 = g.B.Commit.state c.args.commit.now in
+    let k1 = g.B.Commit.state c.save.new.self in
     let t = g.S.BlockStore.state c.save.new.store in
     let last = c.save.new.engine in
     let now_is : c.is_saved_behind.result ≡ (is_whole e.seen.end && c.args.begun.saved) = c.is_saved_behind.ensures ∙ ap (λ (x : Seen). is_whole x.end && c.args.begun.saved) c.seen.ensures in
     let due = due_is c.args.begun.saved c.is_saved_behind.result c.args.answer c.in-Ok.outcome e.seen.end c.in-Ok.is now_is ∙ c.if-not-is_saved_behind.false in
-    subst (λ (b : Bool). SavesBehind g.R.Revisions.state b c.args.begun c.args.answer (Ok c.in-Ok.outcome) e s last t k0 k1) (sym due)
+    subst (λ (b : Bool). CommitsIfDue g.R.Revisions.state b c.args.begun c.args.answer (Ok c.in-Ok.outcome) e s last t k0 k1) (sym due)
     (record {
       saving = Ok c.in-Ok-save.field-0;
       last = last;
@@ -77,17 +77,17 @@ overflow_sub-accesses g c =
     let grown = longer c.args.begun.accesses (g.S.BlockStore.state c.leave_forgotten.new.store).asked began.done (g.S.BlockStore.state c.save.new.store).asked (omega (arith, counted, same)) began.asked in
     omega (arith, grown, count)
 
-pub returns-in-Err-save-clause-behind : goal.returns-in-Err-save-clause-behind
-returns-in-Err-save-clause-behind g c =
+pub returns-in-Err-save-clause-commits : goal.returns-in-Err-save-clause-commits
+returns-in-Err-save-clause-commits g c =
     let e = c.args.engine.now in
     let s = g.S.BlockStore.state c.args.store.now in
-    let k0 = g.B.Behind.state c.args.behind.now in
-    let k1 = g.B.Behind.state c.save.new.self in
+    let k0 = g.B.Commit.state c.args.commit.now in
+    let k1 = g.B.Commit.state c.save.new.self in
     let t = g.S.BlockStore.state c.save.new.store in
     let last = c.save.new.engine in
     let now_is : c.is_saved_behind.result ≡ (is_whole e.seen.end && c.args.begun.saved) = c.is_saved_behind.ensures ∙ ap (λ (x : Seen). is_whole x.end && c.args.begun.saved) c.seen.ensures in
     let due = due_is c.args.begun.saved c.is_saved_behind.result c.args.answer c.in-Ok.outcome e.seen.end c.in-Ok.is now_is ∙ c.if-not-is_saved_behind.false in
-    subst (λ (b : Bool). SavesBehind g.R.Revisions.state b c.args.begun c.args.answer (Err c.in-Err-save.stop) e s c.end_at.new.engine t k0 k1) (sym due)
+    subst (λ (b : Bool). CommitsIfDue g.R.Revisions.state b c.args.begun c.args.answer (Err c.in-Err-save.stop) e s c.end_at.new.engine t k0 k1) (sym due)
     (record {
       saving = Err c.in-Err-save.stop;
       last = last;

@@ -41,13 +41,13 @@ pub returns-then-is_err : goal.returns-then-is_err
 returns-then-is_err g c =
     let emit = g.E.Emit in
     let s = g.S.BlockStore.state c.args.store.now in
-    let s1 = g.S.BlockStore.state c.room.new.self in
+    let s1 = g.S.BlockStore.state c.reserve.new.self in
     let found = c.table_at-flat.ensures in
     record {
       serves =
           serves_same g.R.Revisions.state emit.grew emit.cut emit.faults (TotalsStmt c.args.select.now) c.args.engine.now s s1 c.args.out.now c.args.out.now _ _ _ _
           c.cut-then-is_err.ensures.answer c.cut-then-is_err.ensures.seen
-          (serves_none g.R.Revisions.state emit.grew emit.cut emit.faults g.met.E.Emit.starts c.args.engine.now s s1 c.args.select.now c.table_at-flat.result.0 found.table c.requires.agrees c.room.ensures.rests found.here
+          (serves_none g.R.Revisions.state emit.grew emit.cut emit.faults g.met.E.Emit.starts c.args.engine.now s s1 c.args.select.now c.table_at-flat.result.0 found.table c.requires.agrees c.reserve.ensures.rests found.here
           c.requires.allowed c.args.out.now);
     }
 
@@ -56,11 +56,11 @@ answer_totals-requires g c =
     let found = c.table_at-flat.ensures in
     record {
       may =
-          may_total g.R.Revisions.state g.E.Emit.grew g.E.Emit.cut g.E.Emit.faults g.met.E.Emit.starts c.args.engine.now (g.S.BlockStore.state c.args.store.now) (g.S.BlockStore.state c.room.new.self)
-          c.args.select.now c.table_at-flat.result.0 found.table c.requires.agrees c.room.ensures.rests found.here c.requires.allowed c.table_at-flat.result.1 c.in-Ok.pred found.is
+          may_total g.R.Revisions.state g.E.Emit.grew g.E.Emit.cut g.E.Emit.faults g.met.E.Emit.starts c.args.engine.now (g.S.BlockStore.state c.args.store.now) (g.S.BlockStore.state c.reserve.new.self)
+          c.args.select.now c.table_at-flat.result.0 found.table c.requires.agrees c.reserve.ensures.rests found.here c.requires.allowed c.table_at-flat.result.1 c.in-Ok.pred found.is
           (c.in-Ok.ensures ∙ ap (where_at c.args.select.now.cond) (append-nil c.as_slice.result.now ∙ c.as_slice.ensures.value))
           c.from-2.result (c.from-2.ensures ∙ c.div_ceil-blocks.ensures ∙ (λ j. div_ceil c.table_at-flat.result.1.capacity (c.from.ensures j)))
-          (at_ok c.room.result _ (sym c.is_err.ensures.value ∙ c.if-is_err.false) c.room.ensures.spare);
+          (at_ok c.reserve.result _ (sym c.is_err.ensures.value ∙ c.if-is_err.false) c.reserve.ensures.spare);
       places = subst (λ (n : ℕ). IfSome c.args.select.now.group (λ key. n ≤ c.in-Ok-buckets_for.buckets.most)) c.rows.ensures.value c.in-Ok-buckets_for.ensures;
     }
 
@@ -70,7 +70,7 @@ returns-in-Ok-answer_totals g c =
     let old = c.args.engine.now in
     let state = g.R.Revisions.state in
     let s = g.S.BlockStore.state c.args.store.now in
-    let s1 = g.S.BlockStore.state c.room.new.self in
+    let s1 = g.S.BlockStore.state c.reserve.new.self in
     let t = g.S.BlockStore.state c.answer_totals.new.store in
     let found = c.table_at-flat.ensures in
     let q = c.args.select.now in
@@ -80,7 +80,7 @@ returns-in-Ok-answer_totals g c =
     record {
       serves =
           serves_same state emit.grew emit.cut emit.faults (TotalsStmt q) old s t c.args.out.now c.answer_totals.new.out _ _ _ _ (ap (λ (o : Outcome). Ok o) c.finish.ensures.answer) c.finish.ensures.seen
-          (serves_done state emit.grew emit.cut emit.faults g.met.E.Emit.starts old s s1 q c.table_at-flat.result.0 found.table c.requires.agrees c.room.ensures.rests found.here c.requires.allowed
+          (serves_done state emit.grew emit.cut emit.faults g.met.E.Emit.starts old s s1 q c.table_at-flat.result.0 found.table c.requires.agrees c.reserve.ensures.rests found.here c.requires.allowed
           c.answer_totals.new.vault c.answer_totals.new.room t c.answer_totals.ensures.room c.args.out.now c.answer_totals.new.out c.in-Ok-answer_totals.outcome c.requires.lives totals);
     }
 
@@ -90,7 +90,7 @@ returns g c =
     let old = c.args.engine.now in
     let state = g.R.Revisions.state in
     let s = g.S.BlockStore.state c.args.store.now in
-    let s1 = g.S.BlockStore.state c.room.new.self in
+    let s1 = g.S.BlockStore.state c.reserve.new.self in
     let t = g.S.BlockStore.state c.answer_totals.new.store in
     let found = c.table_at-flat.ensures in
     let q = c.args.select.now in
@@ -102,6 +102,6 @@ returns g c =
     record {
       serves =
           serves_same state emit.grew emit.cut emit.faults (TotalsStmt q) old s t c.args.out.now c.answer_totals.new.out _ _ _ _ c.cut-in-Err.ensures.answer c.cut-in-Err.ensures.seen
-          (serves_cut state emit.grew emit.cut emit.faults g.met.E.Emit.starts old s s1 q c.table_at-flat.result.0 found.table c.requires.agrees c.room.ensures.rests found.here c.requires.allowed
+          (serves_cut state emit.grew emit.cut emit.faults g.met.E.Emit.starts old s s1 q c.table_at-flat.result.0 found.table c.requires.agrees c.reserve.ensures.rests found.here c.requires.allowed
           c.answer_totals.new.vault c.answer_totals.new.room t c.answer_totals.ensures.room c.args.out.now c.answer_totals.new.out c.in-Err.error n count totals);
     }

@@ -10,11 +10,11 @@ use Rattle.ob_parse.specs.StatementReading.{constraint, expects}
 use Rattle.ob_parse.proofs.Steps.{handed_on, no_word, step_done, step_stuck, word_first}
 use Rattle.ob_parse.proofs.change.constraint.Goals as goal
 
--- behind NOT
+-- after NOT
 abbrev null : ℕ → List Token → Read ℕ
 null keys = expects M.Null (R.empty keys)
 
--- behind PRIMARY
+-- after PRIMARY
 abbrev key_word : ℕ → List Token → Read ℕ
 key_word keys = expects M.Key (R.empty (capped (keys + 1)))
 

@@ -13,7 +13,7 @@ use Rattle.ob_parse.specs.StatementReading.{behind, starred}
 use Rattle.ob_parse.proofs.Steps.{handed_on, step_done, step_stuck}
 use Rattle.ob_parse.proofs.select.starred.Goals as goal
 
--- behind the source, behind the table and behind FROM
+-- after the source, after the table and after FROM
 abbrev found : Source → Option Search → List Token → Read Stmt
 found source cond = R.empty (rows None source cond)
 

@@ -10,7 +10,7 @@ use Rattle.ob_shell.specs.Lines.{BatchCut, line_answers}
 
 pub returns-in_default-clause-serves : goal.returns-in_default-clause-serves
 returns-in_default-clause-serves g c = λ flights.
-    let m = machine_of c.args.engine.now (g.S.BlockStore.state c.args.store.now) (g.B.Behind.state c.args.behind.now) flights in
+    let m = machine_of c.args.engine.now (g.S.BlockStore.state c.args.store.now) (g.B.Commit.state c.args.commit.now) flights in
     record {
       ready = tt;
       waits = tt;
@@ -24,10 +24,10 @@ returns-in_default-clause-serves g c = λ flights.
 
 -- the store still lists what was asked for them
 pub write_batch-requires-clause-listed : goal.write_batch-requires-clause-listed
-write_batch-requires-clause-listed g c = omega (arith, c.in-Ok-run_batch.ensures.listed, g.met.S.BlockStore.within_asked c.args.store.now, c.count-mark.ensures)
+write_batch-requires-clause-listed g c = omega (arith, c.in-Ok-run_batch.ensures.listed, g.met.S.BlockStore.within_asked c.args.store.now, c.count-asked_before.ensures)
 
 pub trace_from-requires-clause-listed : goal.trace_from-requires-clause-listed
-trace_from-requires-clause-listed g c = omega (arith, c.in-Err.ensures.listed, g.met.S.BlockStore.within_asked c.args.store.now, c.count-mark.ensures)
+trace_from-requires-clause-listed g c = omega (arith, c.in-Err.ensures.listed, g.met.S.BlockStore.within_asked c.args.store.now, c.count-asked_before.ensures)
 
 pub returns-in-Ok-write_batch-clause-serves : goal.returns-in-Ok-write_batch-clause-serves
 returns-in-Ok-write_batch-clause-serves g c = λ flights.
@@ -37,8 +37,8 @@ returns-in-Ok-write_batch-clause-serves g c = λ flights.
     let outcome = c.in-Ok-run_batch.outcome in
     let outcomes = c.run_batch.new.outcomes in
     let first = c.in-Ok-run_batch.ensures.ran in
-    let split = since s0.asked s1.asked _ _ first.carried.ran.asked c.count-mark.ensures in
-    let ran = batch_from g.R.Revisions.state c.args.first.now c.args.rest.now outcome outcomes c.args.engine.now s0 c.run_batch.new.engine s1 _ _ c.count-mark.result s2 c.let_go_from.ensures first in
+    let split = since s0.asked s1.asked _ _ first.carried.ran.asked c.count-asked_before.ensures in
+    let ran = batch_from g.R.Revisions.state c.args.first.now c.args.rest.now outcome outcomes c.args.engine.now s0 c.run_batch.new.engine s1 _ _ c.count-asked_before.result s2 c.let_go_from.ensures first in
     let on = ran.carried.ran.goes_on in
     let now = c.in-Ok-write_batch.ensures in
     let w0 = g.K.Sink.written c.args.out.now in
@@ -68,7 +68,7 @@ returns-in-Ok-write_batch-clause-took g c =
     let s0 = g.S.BlockStore.state c.args.store.now in
     let s1 = g.S.BlockStore.state c.run_batch.new.store in
     let s2 = g.S.BlockStore.state c.let_go_from.new.store in
-    let before = until s0.asked s1.asked _ c.count-mark.result c.in-Ok-run_batch.ensures.ran.carried.ran.asked c.count-mark.ensures in
+    let before = until s0.asked s1.asked _ c.count-asked_before.result c.in-Ok-run_batch.ensures.ran.carried.ran.asked c.count-asked_before.ensures in
     subst (λ (l : List Access). g.D.Digester.took c.write_batch.new.digest l) (sym (asked_from _ s1 s2 c.let_go_from.ensures))
     (c.in-Ok-write_batch.ensures.took (subst (λ (l : List Access). g.D.Digester.took c.args.digest.now l) (sym before) c.requires.took))
 
@@ -80,14 +80,14 @@ returns-in-Ok-run_batch-clause-serves g c = λ flights.
     let outcome = c.in-Ok-run_batch.outcome in
     let outcomes = c.run_batch.new.outcomes in
     let ran = c.in-Ok-run_batch.ensures.ran in
-    let split = since s0.asked s1.asked _ _ ran.carried.ran.asked c.count-mark.ensures in
+    let split = since s0.asked s1.asked _ _ ran.carried.ran.asked c.count-asked_before.ensures in
     let now = c.in-Err-write_batch.ensures in
     let w0 = g.K.Sink.written c.args.out.now in
     let w1 = g.K.Sink.written c.write_batch.new.out in
     let t0 = g.T.Sink.written c.args.trace.now in
     let t1 = g.T.Sink.written c.write_batch.new.trace in
     let size : length outcomes ≡ c.in-Ok.outcomes.len = omega (arith, c.run_batch.auto.outcomes, c.as_mut_slice.ensures.len) in
-    let cut = subst (λ (l : List Outcome). BatchCut (outcome ∷ l) w0 w1 t0 t1 (traced c.args.tracing (drop c.count-mark.result s1.asked)) (g.K.Sink.faults c.args.out.now) (g.K.Sink.faults c.write_batch.new.out)) (c.as_slice.ensures.value ∙ take_at outcomes _ c.in-Ok.outcomes.len size) now.cut in
+    let cut = subst (λ (l : List Outcome). BatchCut (outcome ∷ l) w0 w1 t0 t1 (traced c.args.tracing (drop c.count-asked_before.result s1.asked)) (g.K.Sink.faults c.args.out.now) (g.K.Sink.faults c.write_batch.new.out)) (c.as_slice.ensures.value ∙ take_at outcomes _ c.in-Ok.outcomes.len size) now.cut in
     record {
       ready = tt;
       waits = tt;
@@ -111,7 +111,7 @@ returns-clause-serves g c = λ flights.
     let s0 = g.S.BlockStore.state c.args.store.now in
     let s1 = g.S.BlockStore.state c.run_batch.new.store in
     let ran = c.in-Err.ensures.ran in
-    let split = since s0.asked s1.asked _ _ ran.carried.ran.asked c.count-mark.ensures in
+    let split = since s0.asked s1.asked _ _ ran.carried.ran.asked c.count-asked_before.ensures in
     let cut = c.trace_from.ensures.cut in
     record {
       ready = tt;

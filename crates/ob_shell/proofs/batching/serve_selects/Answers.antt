@@ -17,7 +17,7 @@ serve_flight-requires g c =
 
 pub returns-then-stmts-ge2-clause-serves : goal.returns-then-stmts-ge2-clause-serves
 returns-then-stmts-ge2-clause-serves g c = λ settings flown.
-    flight_served g.R.Revisions.state (g.B.Behind.Saves c.args.behind.now) c.args.tracing settings c.args.turns.now.last c.serve_flight.new.turns.last c.args.stmts.now c.args.tally c.args.engine.now c.serve_flight.new.engine (g.S.BlockStore.state c.args.store.now) (g.S.BlockStore.state c.serve_flight.new.store) (g.B.Behind.state c.args.behind.now)
+    flight_served g.R.Revisions.state (g.B.Commit.Saves c.args.commit.now) c.args.tracing settings c.args.turns.now.last c.serve_flight.new.turns.last c.args.stmts.now c.args.tally c.args.engine.now c.serve_flight.new.engine (g.S.BlockStore.state c.args.store.now) (g.S.BlockStore.state c.serve_flight.new.store) (g.B.Commit.state c.args.commit.now)
     (omega (arith, c.if-stmts-ge2.true)) flown c.requires.ready c.serve_flight.result c.serve_flight.ensures.runs c.serve_flight.ensures.traced c.serve_flight.ensures.traced_stop
 
 pub serve_stmt-requires : goal.serve_stmt-requires
@@ -33,4 +33,4 @@ returns-clause-serves g c = λ settings flown.
     let may = first_may (public_of c.args.engine.now) c.args.stmts.now one flown.fly (first_at c.args.stmts.now one c.requires.some c.index-stmts-0.is) in
     let there = g.S.BlockStore.state c.args.store.now in
     rw (only_one c.args.stmts.now one (omega (arith, c.if-stmts-ge2.false)) (first_at c.args.stmts.now one c.requires.some c.index-stmts-0.is))
-    (single_served {m0 = machine_of c.args.engine.now there (g.B.Behind.state c.args.behind.now) (flights_of settings c.args.turns.now.last)} one c.args.tally c.serve_stmt.result may (c.serve_stmt.ensures.serves (flights_of settings c.args.turns.now.last)) c.serve_stmt.ensures.traced c.serve_stmt.ensures.traced_stop)
+    (single_served {m0 = machine_of c.args.engine.now there (g.B.Commit.state c.args.commit.now) (flights_of settings c.args.turns.now.last)} one c.args.tally c.serve_stmt.result may (c.serve_stmt.ensures.serves (flights_of settings c.args.turns.now.last)) c.serve_stmt.ensures.traced c.serve_stmt.ensures.traced_stop)

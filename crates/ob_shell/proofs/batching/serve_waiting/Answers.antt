@@ -11,7 +11,7 @@ none (stmt ∷ batch) is = absurd (omega (arith, is))
 pub returns-in_default-clause-serves : goal.returns-in_default-clause-serves
 returns-in_default-clause-serves g c = λ settings waits.
     rw (none c.args.stmts.now c.in_default.ensures.cases)
-    (takes_idle c.args.tracing [] c.args.tally _ _ _ (machine_of c.args.engine.now (g.S.BlockStore.state c.args.store.now) (g.B.Behind.state c.args.behind.now) (flights_of settings c.args.turns.now.last)) c.args.tally (ready_with c.requires.ready) tt (λ h free. refl))
+    (takes_idle c.args.tracing [] c.args.tally _ _ _ (machine_of c.args.engine.now (g.S.BlockStore.state c.args.store.now) (g.B.Commit.state c.args.commit.now) (flights_of settings c.args.turns.now.last)) c.args.tally (ready_with c.requires.ready) tt (λ h free. refl))
 
 pub serve_batch-requires : goal.serve_batch-requires
 serve_batch-requires g c =

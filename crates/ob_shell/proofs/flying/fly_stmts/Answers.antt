@@ -1,5 +1,5 @@
 use Rattle.ob_shell.proofs.Words.{arith, false, inr, refl, rules, Tally, true, ◌∙◌, ◌≡◌}
-use Rattle.ob_shell.proofs.AloftLemmas.{named_until, named_whole}
+use Rattle.ob_shell.proofs.InFlightLemmas.{named_until, named_whole}
 use Rattle.ob_shell.proofs.CountLemmas.{rises_earlier}
 use Rattle.ob_shell.proofs.FlightPrints.{counts_whole, prints_behind, prints_lost, prints_until, prints_whole}
 use Rattle.ob_shell.proofs.ServeLemmas.{flush_loses, flush_silences, stop_cause}

@@ -7,10 +7,10 @@ use Rattle.ob_shell.proofs.TraceLemmas.{lost_trace, since, until}
 use Rattle.ob_shell.proofs.flying.serve_flight.Goals as goal
 
 pub trace_from-requires-clause-listed : goal.trace_from-requires-clause-listed
-trace_from-requires-clause-listed g c = omega (arith, c.in-Ok.ensures.listed, g.met.S.BlockStore.within_asked c.args.store.now, c.count-mark.ensures)
+trace_from-requires-clause-listed g c = omega (arith, c.in-Ok.ensures.listed, g.met.S.BlockStore.within_asked c.args.store.now, c.count-asked_before.ensures)
 
 pub trace_from-requires-in-Err-false-clause-listed : goal.trace_from-requires-in-Err-false-clause-listed
-trace_from-requires-in-Err-false-clause-listed g c = omega (arith, c.in-Err-false.ensures.listed, g.met.S.BlockStore.within_asked c.args.store.now, c.count-mark.ensures)
+trace_from-requires-in-Err-false-clause-listed g c = omega (arith, c.in-Err-false.ensures.listed, g.met.S.BlockStore.within_asked c.args.store.now, c.count-asked_before.ensures)
 
 -- the trace's sink failed
 pub returns-in-Err-clause-runs : goal.returns-in-Err-clause-runs
@@ -62,12 +62,12 @@ returns-in-Ok-trace_from-clause-traced g c =
     record {
       seen = asked.0;
       grew = asked_from _ _ _ c.let_go_from.ensures ∙ asked.1;
-      appends = subst (λ (l : List Access). Appends (g.T.Sink.written c.args.trace.now) (g.T.Sink.written c.trace_from.new.trace) (traced c.args.tracing l)) (since _ _ asked.0 c.count-mark.result asked.1 c.count-mark.ensures) c.in-Ok-trace_from.ensures.ok;
+      appends = subst (λ (l : List Access). Appends (g.T.Sink.written c.args.trace.now) (g.T.Sink.written c.trace_from.new.trace) (traced c.args.tracing l)) (since _ _ asked.0 c.count-asked_before.result asked.1 c.count-asked_before.ensures) c.in-Ok-trace_from.ensures.ok;
     }
 
 pub returns-in-Ok-trace_from-clause-took : goal.returns-in-Ok-trace_from-clause-took
 returns-in-Ok-trace_from-clause-took g c =
     let asked = c.in-Ok.ensures.asked in
-    let before = until _ _ asked.0 c.count-mark.result asked.1 c.count-mark.ensures in
+    let before = until _ _ asked.0 c.count-asked_before.result asked.1 c.count-asked_before.ensures in
     subst (λ (l : List Access). g.D.Digester.took c.trace_from.new.digest l) (sym (asked_from _ _ _ c.let_go_from.ensures))
     (c.trace_from.ensures.took (subst (λ (l : List Access). g.D.Digester.took c.args.digest.now l) (sym before) c.requires.took))

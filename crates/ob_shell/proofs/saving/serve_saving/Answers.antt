@@ -14,7 +14,7 @@ returns-clause-served g c base config keys secret salt engages =
     subst (λ k. ServesSaved g.R.Revisions.state (flying c.args.flight base) keys secret salt c.args.tracing c.plainly.result c.args.feed.now now.feed (g.I.Source.left c.args.input.now) (g.I.Source.left now.input) (g.I.Source.gave now.input)
     (g.O.Sink.written c.args.out.now) (g.O.Sink.written now.out) (g.T.Sink.written c.args.trace.now) (g.T.Sink.written now.trace) store0 (g.S.BlockStore.state now.store)
     (faults_of (g.I.Source.faults c.args.input.now) (g.O.Sink.faults c.args.out.now) (g.T.Sink.faults c.args.trace.now)) (faults_of (g.I.Source.faults now.input) (g.O.Sink.faults now.out) (g.T.Sink.faults now.trace))
-    k0 (g.K.Keeper.state k) (BeginsToSave g.R.Revisions.state secret salt base keys (machine_of c.args.engine store0 k0 no_flights))) {x = now.behind.keeper.now} (search rules)
+    k0 (g.K.Keeper.state k) (BeginsToSave g.R.Revisions.state secret salt base keys (machine_of c.args.engine store0 k0 no_flights))) {x = now.commit.keeper.now} (search rules)
     (rw c.plainly.ensures
     (serves_saved _ base config keys secret salt c.args.engine c.serve-served.new.engine _ _ _ ran.ran.0 _ _ engages _ (rw ended.high c.high.ensures.most) (rw ended.high c.high.ensures.value) c.args.tracing _ _ _ _ _ _ _ _ _ (stop_of c.serve-served.result) _ _
     (rw ended.quiet ran.ran.1) (rw ended.quiet ran.traced) ran.cause (rw ended.quiet ran.quiet) (rw ended.ending refl) ended.tally))

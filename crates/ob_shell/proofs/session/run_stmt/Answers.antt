@@ -8,8 +8,8 @@ use Rattle.ob_shell.proofs.session.run_stmt.Goals as goal
 pub returns-in-Ok-flush-clause-serves : goal.returns-in-Ok-flush-clause-serves
 returns-in-Ok-flush-clause-serves g c = λ flights.
     let on = c.in-Ok.ensures.ran.carried.ran.goes_on in
-    let m0 = machine_of c.args.engine.now (g.S.BlockStore.state c.args.store.now) (g.B.Behind.state c.args.behind.now) flights in
-    let m1 = machine_of c.run.new.engine (g.S.BlockStore.state c.run.new.store) (g.B.Behind.state c.run.new.behind) flights in
+    let m0 = machine_of c.args.engine.now (g.S.BlockStore.state c.args.store.now) (g.B.Commit.state c.args.commit.now) flights in
+    let m1 = machine_of c.run.new.engine (g.S.BlockStore.state c.run.new.store) (g.B.Commit.state c.run.new.commit) flights in
     record {
       most = λ settings. ap (most_flown settings) on.public;
       tables = λ flies. select_tables (public_of c.args.engine.now) (skeleton c.args.stmt.now) (seen_of c.run.new.engine) flies on.public;
@@ -24,8 +24,8 @@ returns-in-Ok-flush-clause-serves g c = λ flights.
 
 pub returns-in-Err-flush-clause-serves : goal.returns-in-Err-flush-clause-serves
 returns-in-Err-flush-clause-serves g c = λ flights.
-    let m0 = machine_of c.args.engine.now (g.S.BlockStore.state c.args.store.now) (g.B.Behind.state c.args.behind.now) flights in
-    let m1 = machine_of c.run.new.engine (g.S.BlockStore.state c.run.new.store) (g.B.Behind.state c.run.new.behind) flights in
+    let m0 = machine_of c.args.engine.now (g.S.BlockStore.state c.args.store.now) (g.B.Commit.state c.args.commit.now) flights in
+    let m1 = machine_of c.run.new.engine (g.S.BlockStore.state c.run.new.store) (g.B.Commit.state c.run.new.commit) flights in
     record {
       ready = tt;
       most = λ settings. tt;
@@ -41,8 +41,8 @@ returns-in-Err-flush-clause-serves g c = λ flights.
 pub returns-in-SinkFault-clause-serves : goal.returns-in-SinkFault-clause-serves
 returns-in-SinkFault-clause-serves g c = λ flights.
     let serves = rw c.in-SinkFault.is at c.in-Err.ensures.ran in
-    let m0 = machine_of c.args.engine.now (g.S.BlockStore.state c.args.store.now) (g.B.Behind.state c.args.behind.now) flights in
-    let m1 = machine_of c.run.new.engine (g.S.BlockStore.state c.run.new.store) (g.B.Behind.state c.run.new.behind) flights in
+    let m0 = machine_of c.args.engine.now (g.S.BlockStore.state c.args.store.now) (g.B.Commit.state c.args.commit.now) flights in
+    let m1 = machine_of c.run.new.engine (g.S.BlockStore.state c.run.new.store) (g.B.Commit.state c.run.new.commit) flights in
     record {
       ready = tt;
       most = λ settings. tt;
@@ -57,8 +57,8 @@ returns-in-SinkFault-clause-serves g c = λ flights.
 pub returns-in_default-clause-serves : goal.returns-in_default-clause-serves
 returns-in_default-clause-serves g c = λ flights.
     let lost = flush_loses c.in-Err.stop c.flush-in_default.result c.is_err-quiet.result _ _ _ c.in_default.not-SinkFault c.in-Err.ensures.ran.sink c.is_err-quiet.ensures.value c.flush-in_default.ensures.cause in
-    let m0 = machine_of c.args.engine.now (g.S.BlockStore.state c.args.store.now) (g.B.Behind.state c.args.behind.now) flights in
-    let m1 = machine_of c.run.new.engine (g.S.BlockStore.state c.run.new.store) (g.B.Behind.state c.run.new.behind) flights in
+    let m0 = machine_of c.args.engine.now (g.S.BlockStore.state c.args.store.now) (g.B.Commit.state c.args.commit.now) flights in
+    let m1 = machine_of c.run.new.engine (g.S.BlockStore.state c.run.new.store) (g.B.Commit.state c.run.new.commit) flights in
     record {
       ready = tt;
       most = λ settings. tt;

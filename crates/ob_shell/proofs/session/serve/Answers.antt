@@ -15,5 +15,5 @@ serve_feed-requires g c = record {
 -- what the server referred to has come to what it has
 pub returns-clause-ran : goal.returns-clause-ran
 returns-clause-ran g c =
-    ran_over g.S.BlockStore.state g.B.Behind.state g.K.Sink.written g.K.Sink.faults g.T.Sink.written _ (search rules) (search rules) (search rules) (search rules) (search rules) c.turns_of.ensures
+    ran_over g.S.BlockStore.state g.B.Commit.state g.K.Sink.written g.K.Sink.faults g.T.Sink.written _ (search rules) (search rules) (search rules) (search rules) (search rules) c.turns_of.ensures
     (rw c.new-server.ensures at c.serve_feed.ensures.ran)

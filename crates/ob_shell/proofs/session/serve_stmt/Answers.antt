@@ -8,10 +8,10 @@ use Rattle.ob_shell.proofs.StepLemmas.{stops_after}
 use Rattle.ob_shell.proofs.session.serve_stmt.Goals as goal
 
 pub trace_from-requires-clause-listed : goal.trace_from-requires-clause-listed
-trace_from-requires-clause-listed g c = omega (arith, c.in-Ok.ensures.listed, g.met.S.BlockStore.within_asked c.args.store.now, c.count-mark.ensures)
+trace_from-requires-clause-listed g c = omega (arith, c.in-Ok.ensures.listed, g.met.S.BlockStore.within_asked c.args.store.now, c.count-asked_before.ensures)
 
 pub trace_from-requires-in-Err-false-clause-listed : goal.trace_from-requires-in-Err-false-clause-listed
-trace_from-requires-in-Err-false-clause-listed g c = omega (arith, c.in-Err-false.ensures.listed, g.met.S.BlockStore.within_asked c.args.store.now, c.count-mark.ensures)
+trace_from-requires-in-Err-false-clause-listed g c = omega (arith, c.in-Err-false.ensures.listed, g.met.S.BlockStore.within_asked c.args.store.now, c.count-asked_before.ensures)
 
 pub returns-in-Err-clause-serves : goal.returns-in-Err-clause-serves
 returns-in-Err-clause-serves g c = λ flights.
@@ -60,12 +60,12 @@ pub returns-in-Ok-trace_from-clause-serves : goal.returns-in-Ok-trace_from-claus
 returns-in-Ok-trace_from-clause-serves g c = λ flights.
     let serves = c.in-Ok.ensures.serves flights in
     let goes = c.let_go_from.ensures in
-    let m0 = machine_of c.args.engine.now (g.S.BlockStore.state c.args.store.now) (g.B.Behind.state c.args.behind.now) flights in
+    let m0 = machine_of c.args.engine.now (g.S.BlockStore.state c.args.store.now) (g.B.Commit.state c.args.commit.now) flights in
     record {
       ready = ready_from _ m0 _ _ _ goes serves.ready;
       most = serves.most;
       tables = serves.tables;
-      done = λ h text may spells. answers_from _ _ _ _ _ c.count-mark.ensures goes (serves.done h text may spells);
+      done = λ h text may spells. answers_from _ _ _ _ _ c.count-asked_before.ensures goes (serves.done h text may spells);
       stopped = tt;
       cause = search rules;
       quiet = search rules;
@@ -77,12 +77,12 @@ returns-in-Ok-trace_from-clause-traced g c =
     record {
       seen = asked.0;
       grew = asked_from _ _ _ c.let_go_from.ensures ∙ asked.1;
-      appends = subst (λ (l : List Access). Appends (g.T.Sink.written c.args.trace.now) (g.T.Sink.written c.trace_from.new.trace) (traced c.args.tracing l)) (since _ _ asked.0 c.count-mark.result asked.1 c.count-mark.ensures) c.in-Ok-trace_from.ensures.ok;
+      appends = subst (λ (l : List Access). Appends (g.T.Sink.written c.args.trace.now) (g.T.Sink.written c.trace_from.new.trace) (traced c.args.tracing l)) (since _ _ asked.0 c.count-asked_before.result asked.1 c.count-asked_before.ensures) c.in-Ok-trace_from.ensures.ok;
     }
 
 pub returns-in-Ok-trace_from-clause-took : goal.returns-in-Ok-trace_from-clause-took
 returns-in-Ok-trace_from-clause-took g c =
     let asked = c.in-Ok.ensures.asked in
-    let before = until _ _ asked.0 c.count-mark.result asked.1 c.count-mark.ensures in
+    let before = until _ _ asked.0 c.count-asked_before.result asked.1 c.count-asked_before.ensures in
     subst (λ (l : List Access). g.D.Digester.took c.trace_from.new.digest l) (sym (asked_from _ _ _ c.let_go_from.ensures))
     (c.trace_from.ensures.took (subst (λ (l : List Access). g.D.Digester.took c.args.digest.now l) (sym before) c.requires.took))

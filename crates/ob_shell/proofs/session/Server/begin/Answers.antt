@@ -34,7 +34,7 @@ returns-in-Ok-clause-takes g c =
     let flights = flights_of c.args.manner.flight c.args.session.now.turns.last in
     let not = (begins_none c.args.manner.flight p m c.args.stmt (sym c.begins.ensures ∙ c.if-begins.false)).1 in
     rw c.requires.none
-    (takes_one {m0 = machine_of s.engine.now (g.S.BlockStore.state s.store.now) (g.B.Behind.state s.behind.now) flights} c.args.stmt c.args.session.now.tally c.args.session.now.pending c.requires.spells None c.in-Ok.tally not (c.in-Ok.ensures.serves flights) c.in-Ok.ensures.traced)
+    (takes_one {m0 = machine_of s.engine.now (g.S.BlockStore.state s.store.now) (g.B.Commit.state s.commit.now) flights} c.args.stmt c.args.session.now.tally c.args.session.now.pending c.requires.spells None c.in-Ok.tally not (c.in-Ok.ensures.serves flights) c.in-Ok.ensures.traced)
 
 pub returns-clause-takes : goal.returns-clause-takes
 returns-clause-takes g c =
@@ -42,7 +42,7 @@ returns-clause-takes g c =
     let flights = flights_of c.args.manner.flight c.args.session.now.turns.last in
     let serves = c.in-Err.ensures.serves flights in
     rw c.requires.none
-    (takes_halted {m0 = machine_of s.engine.now (g.S.BlockStore.state s.store.now) (g.B.Behind.state s.behind.now) flights} c.args.stmt c.args.session.now.tally c.args.session.now.pending c.requires.spells c.in-Err.halted
+    (takes_halted {m0 = machine_of s.engine.now (g.S.BlockStore.state s.store.now) (g.B.Commit.state s.commit.now) flights} c.args.stmt c.args.session.now.tally c.args.session.now.pending c.requires.spells c.in-Err.halted
     (same_cause _ Tally (Option Stop) (session_stop c.in-Err.halted.stop) _ _ serves.cause) serves c.in-Err.ensures.traced_stop)
 
 pub returns-in-Ok-clause-ready : goal.returns-in-Ok-clause-ready

@@ -10,7 +10,7 @@ pub returns-then-not-has_words-clause-takes : goal.returns-then-not-has_words-cl
 returns-then-not-has_words-clause-takes g c =
     let none : has_words (reading_of c.args.session.now.pending) ≡ false = cc (c.has_words.ensures, c.if-not-has_words.true) in
     rw (tail_text-by c.args.session.now.pending false none)
-    (takes_idle c.args.manner.tracing c.args.session.now.batch.items c.args.session.now.tally _ _ _ (machine_of c.args.self.now.engine.now (g.S.BlockStore.state c.args.self.now.store.now) (g.B.Behind.state c.args.self.now.behind.now) (flights_of c.args.manner.flight c.args.session.now.turns.last)) _ c.requires.ready.ready c.requires.waits (λ h free. free))
+    (takes_idle c.args.manner.tracing c.args.session.now.batch.items c.args.session.now.tally _ _ _ (machine_of c.args.self.now.engine.now (g.S.BlockStore.state c.args.self.now.store.now) (g.B.Commit.state c.args.self.now.commit.now) (flights_of c.args.manner.flight c.args.session.now.turns.last)) _ c.requires.ready.ready c.requires.waits (λ h free. free))
 
 pub returns-clause-takes : goal.returns-clause-takes
 returns-clause-takes g c =

@@ -11,7 +11,7 @@ returns-then-is_err-clause-takes g c =
     let batch = c.args.session.now.batch.items in
     let same : c.push.new.self.items ≡ batch = unpushed c.push.result c.is_err.result _ c.is_err.ensures.value c.if-is_err.true c.push.ensures.items in
     rw same (
-      takes_idle c.args.manner.tracing batch c.args.session.now.tally _ _ _ (machine_of s.engine.now (g.S.BlockStore.state s.store.now) (g.B.Behind.state s.behind.now) (flights_of c.args.manner.flight c.args.session.now.turns.last)) _ c.requires.ready.ready (waits_by c.args.manner.flight (public_of s.engine.now) m batch c.args.stmt c.requires.goes)
+      takes_idle c.args.manner.tracing batch c.args.session.now.tally _ _ _ (machine_of s.engine.now (g.S.BlockStore.state s.store.now) (g.B.Commit.state s.commit.now) (flights_of c.args.manner.flight c.args.session.now.turns.last)) _ c.requires.ready.ready (waits_by c.args.manner.flight (public_of s.engine.now) m batch c.args.stmt c.requires.goes)
           (λ h free. comes_before c.args.manner.flight (public_of s.engine.now) batch c.args.stmt h free),
       refl,
     )
@@ -25,7 +25,7 @@ returns-then-len-most-clause-takes g c =
     let most = c.gather_most-most.ensures ∙ ap (λ (p : Public). gather_most c.args.manner.flight p (skeleton c.args.stmt)) c.public.ensures in
     let size = ap length more in
     rw more
-    (takes_gathered batch c.args.stmt c.args.session.now.pending c.requires.spells c.args.session.now.tally _ _ _ (machine_of s.engine.now (g.S.BlockStore.state s.store.now) (g.B.Behind.state s.behind.now) (flights_of c.args.manner.flight c.args.session.now.turns.last)) _ c.requires.ready.ready
+    (takes_gathered batch c.args.stmt c.args.session.now.pending c.requires.spells c.args.session.now.tally _ _ _ (machine_of s.engine.now (g.S.BlockStore.state s.store.now) (g.B.Commit.state s.commit.now) (flights_of c.args.manner.flight c.args.session.now.turns.last)) _ c.requires.ready.ready
     (gathered_more c.args.manner.flight (public_of s.engine.now) m batch c.args.stmt c.requires.goes (omega (arith, c.if-len-most.true, c.len.ensures, most, size, c.push.new.self.ok.0))))
 
 pub flush-requires-clause-waits : goal.flush-requires-clause-waits

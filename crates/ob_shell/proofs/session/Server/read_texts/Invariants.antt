@@ -11,12 +11,12 @@ invariant-bytes g l =
       so_far :
           SoFar g.R.Revisions.state l.initial.feed l.feed (g.I.Source.left l.initial.input) (g.I.Source.left l.input)
           (g.K.Sink.written l.initial.self.out.now) (g.K.Sink.written l.self.out.now) l.session.pending l.session.batch.items l.session.tally
-          (machine_of l.initial.self.engine.now (g.S.BlockStore.state l.initial.self.store.now) (g.B.Behind.state l.initial.self.behind.now) (flights_of l.manner.flight l.initial.session.turns.last))
-          (machine_of l.self.engine.now (g.S.BlockStore.state l.self.store.now) (g.B.Behind.state l.self.behind.now) (flights_of l.manner.flight l.session.turns.last));
+          (machine_of l.initial.self.engine.now (g.S.BlockStore.state l.initial.self.store.now) (g.B.Commit.state l.initial.self.commit.now) (flights_of l.manner.flight l.initial.session.turns.last))
+          (machine_of l.self.engine.now (g.S.BlockStore.state l.self.store.now) (g.B.Commit.state l.self.commit.now) (flights_of l.manner.flight l.session.turns.last));
       short : length l.session.pending < text_max;
-      ready : IsReady g.R.Revisions.state (g.B.Behind.Saves l.self.behind.now) (machine_of l.self.engine.now (g.S.BlockStore.state l.self.store.now) (g.B.Behind.state l.self.behind.now) (flights_of l.manner.flight l.session.turns.last));
+      ready : IsReady g.R.Revisions.state (g.B.Commit.Saves l.self.commit.now) (machine_of l.self.engine.now (g.S.BlockStore.state l.self.store.now) (g.B.Commit.state l.self.commit.now) (flights_of l.manner.flight l.session.turns.last));
       waits : AreWaiting l.manner.flight (public_of l.self.engine.now) (count_of l.self.engine.now (g.S.BlockStore.state l.self.store.now)) l.session.batch.items;
-      keeps : KeepsServer g.B.Behind.name l.initial.self l.self;
+      keeps : KeepsServer g.B.Commit.name l.initial.self l.self;
       fed_by : IsFedBy l.feed (g.I.Source.gave l.input);
       source : g.I.Source.faults l.input ≡ g.I.Source.faults l.initial.input;
       sink : g.K.Sink.faults l.self.out.now ≡ g.K.Sink.faults l.initial.self.out.now;

@@ -20,7 +20,7 @@ returns-in-Ok-clause-takes g c =
     let bare = rw c.in_default.ensures.none at c.in_default.ensures.flushes in
     let flushed = comes_by (Ok tt) (λ h free. comes_free c.args.manner.flight (public_of c.args.self.now.engine.now) c.args.session.now.batch.items h free) bare in
     let line = c.as_bytes.ensures ∙ c.closing_line.ensures in
-    let m = machine_of c.flush.new.self.engine.now (g.S.BlockStore.state c.flush.new.self.store.now) (g.B.Behind.state c.flush.new.self.behind.now) (flights_of c.args.manner.flight c.flush.new.session.turns.last) in
+    let m = machine_of c.flush.new.self.engine.now (g.S.BlockStore.state c.flush.new.self.store.now) (g.B.Commit.state c.flush.new.self.commit.now) (flights_of c.args.manner.flight c.flush.new.session.turns.last) in
     rw (c.in_default.ensures.none, c.tally_with-session.ensures)
     (takes_then flushed (λ h k free closed. tt {0}) (c.args.session.now.pending ∷ []) (Ok None) (λ h k l free closed then. then)
     (takes_misspelt c.args.manner.tracing {May = λ (h : Gathered). Unit {0}} _ m refl c.args.session.now.pending c.args.at c.requires.spells _ None flushed.ready (record { source = refl; out = c.in-Ok.ensures.cause.kept; trace = refl }) (rw line at c.in-Ok.ensures.ok) (c.in-Ok.ensures.cause.kept, refl)))
@@ -30,6 +30,6 @@ returns-in-Err-write_all-clause-takes g c =
     let bare = rw c.in_default.ensures.none at c.in_default.ensures.flushes in
     let flushed = comes_by (Ok tt) (λ h free. comes_free c.args.manner.flight (public_of c.args.self.now.engine.now) c.args.session.now.batch.items h free) bare in
     let line = c.as_bytes.ensures ∙ c.closing_line.ensures in
-    let m = machine_of c.flush.new.self.engine.now (g.S.BlockStore.state c.flush.new.self.store.now) (g.B.Behind.state c.flush.new.self.behind.now) (flights_of c.args.manner.flight c.flush.new.session.turns.last) in
+    let m = machine_of c.flush.new.self.engine.now (g.S.BlockStore.state c.flush.new.self.store.now) (g.B.Commit.state c.flush.new.self.commit.now) (flights_of c.args.manner.flight c.flush.new.session.turns.last) in
     takes_then flushed (λ h k free closed. tt {0}) (c.args.session.now.pending ∷ []) (Err (record { stop = SinkFault; quiet = true })) (λ h k l free closed then. then)
     (loses_misspelt c.args.manner.tracing {May = λ (h : Gathered). Unit {0}} _ m refl c.args.session.now.pending c.args.at c.requires.spells _ _ refl ((λ alone. refl, inl refl), inl c.in-Err-write_all.ensures.cause.failed) (Outputs-fault (refl, c.in-Err-write_all.ensures.cause.failed) (rw line at c.in-Err-write_all.ensures.cut)) (inl c.in-Err-write_all.ensures.cause.failed))

@@ -13,7 +13,7 @@ take_misspelt-requires-clause-spells g c =
 
 pub returns-in-NoMemory-clause-takes : goal.returns-in-NoMemory-clause-takes
 returns-in-NoMemory-clause-takes g c = (
-  takes_idle c.args.manner.tracing c.args.session.now.batch.items c.args.session.now.tally _ _ _ (machine_of c.args.self.now.engine.now (g.S.BlockStore.state c.args.self.now.store.now) (g.B.Behind.state c.args.self.now.behind.now) (flights_of c.args.manner.flight c.args.session.now.turns.last)) _ c.requires.ready.ready c.requires.waits
+  takes_idle c.args.manner.tracing c.args.session.now.batch.items c.args.session.now.tally _ _ _ (machine_of c.args.self.now.engine.now (g.S.BlockStore.state c.args.self.now.store.now) (g.B.Commit.state c.args.self.now.commit.now) (flights_of c.args.manner.flight c.args.session.now.turns.last)) _ c.requires.ready.ready c.requires.waits
       (λ h free. comes_free c.args.manner.flight (public_of c.args.self.now.engine.now) c.args.session.now.batch.items h free),
   refl,
 )

@@ -10,19 +10,19 @@ use Rattle.ob_tables.proofs.engine.Engine.create_flat.Goals as goal
 pub returns-then-is_err : goal.returns-then-is_err
 returns-then-is_err g c = record {
   serves =
-      serves_as g.R.Revisions.state (Create c.args.table.now c.args.columns.now c.args.capacity FlatShape) c.args.self.now (g.S.BlockStore.state c.args.store.now) (g.S.BlockStore.state c.room.new.self) _ _ _ _
+      serves_as g.R.Revisions.state (Create c.args.table.now c.args.columns.now c.args.capacity FlatShape) c.args.self.now (g.S.BlockStore.state c.args.store.now) (g.S.BlockStore.state c.reserve.new.self) _ _ _ _
       c.cut.ensures.answer c.cut.ensures.seen
       (unasked g.R.Revisions.state (Create c.args.table.now c.args.columns.now c.args.capacity FlatShape) c.args.self.now (g.S.BlockStore.state c.args.store.now) c.requires.agrees c.requires.allowed refl refl refl
-      (g.S.BlockStore.state c.room.new.self) c.args.self.now.public.tables c.room.ensures.rests);
+      (g.S.BlockStore.state c.reserve.new.self) c.args.self.now.public.tables c.reserve.ensures.rests);
 }
 
 pub returns-then-is_err-2 : goal.returns-then-is_err-2
 returns-then-is_err-2 g c = record {
   serves =
-      serves_as g.R.Revisions.state (Create c.args.table.now c.args.columns.now c.args.capacity FlatShape) c.args.self.now (g.S.BlockStore.state c.args.store.now) (g.S.BlockStore.state c.room.new.self) _ _ _ _
+      serves_as g.R.Revisions.state (Create c.args.table.now c.args.columns.now c.args.capacity FlatShape) c.args.self.now (g.S.BlockStore.state c.args.store.now) (g.S.BlockStore.state c.reserve.new.self) _ _ _ _
       c.cut-then-is_err-2.ensures.answer c.cut-then-is_err-2.ensures.seen
       (unasked g.R.Revisions.state (Create c.args.table.now c.args.columns.now c.args.capacity FlatShape) c.args.self.now (g.S.BlockStore.state c.args.store.now) c.requires.agrees c.requires.allowed refl refl refl
-      (g.S.BlockStore.state c.room.new.self) c.push.new.self c.room.ensures.rests);
+      (g.S.BlockStore.state c.reserve.new.self) c.push.new.self c.reserve.ensures.rests);
 }
 
 pub returns-in-Ok : goal.returns-in-Ok
@@ -34,8 +34,8 @@ returns-in-Ok g c =
     let tables = pushed ∙ ap (λ (t : Table). old.public.tables ++ t ∷ []) c.new_table-new.ensures.value in
     record {
       serves =
-          created g.R.Revisions.state old (g.S.BlockStore.state c.args.store.now) (g.S.BlockStore.state c.room.new.self) v room (g.S.BlockStore.state c.create.new.store) c.args.table.now c.args.columns.now
-          c.new_schema-schema.result c.args.capacity FlatShape c.requires.agrees c.room.ensures.rests (opens_block c.requires.agrees c.create.ensures.room) c.new_schema-schema.ensures.value c.requires.allowed refl
+          created g.R.Revisions.state old (g.S.BlockStore.state c.args.store.now) (g.S.BlockStore.state c.reserve.new.self) v room (g.S.BlockStore.state c.create.new.store) c.args.table.now c.args.columns.now
+          c.new_schema-schema.result c.args.capacity FlatShape c.requires.agrees c.reserve.ensures.rests (opens_block c.requires.agrees c.create.ensures.room) c.new_schema-schema.ensures.value c.requires.allowed refl
           c.new_table-new.ensures.short c.new_schema-schema.ensures.names _ _ _ c.in-Ok.ensures.creates c.requires.lives (ap (λ (o : Outcome). Ok o) c.finish.ensures.answer)
           (c.finish.ensures.seen ∙ ap (λ (ts : List Table). engine_after old v room ts Whole old.ended) tables);
     }
@@ -51,8 +51,8 @@ returns-in-Err g c =
     let tables = popped c.pop.result _ _ old.public.tables _ c.pop.ensures pushed in
     record {
       serves =
-          not_created g.R.Revisions.state old (g.S.BlockStore.state c.args.store.now) (g.S.BlockStore.state c.room.new.self) v room (g.S.BlockStore.state c.create.new.store) c.args.table.now c.args.columns.now
-          c.new_schema-schema.result c.args.capacity FlatShape c.requires.agrees c.room.ensures.rests (opens_block c.requires.agrees c.create.ensures.room) c.new_schema-schema.ensures.value c.requires.allowed refl
+          not_created g.R.Revisions.state old (g.S.BlockStore.state c.args.store.now) (g.S.BlockStore.state c.reserve.new.self) v room (g.S.BlockStore.state c.create.new.store) c.args.table.now c.args.columns.now
+          c.new_schema-schema.result c.args.capacity FlatShape c.requires.agrees c.reserve.ensures.rests (opens_block c.requires.agrees c.create.ensures.room) c.new_schema-schema.ensures.value c.requires.allowed refl
           error n _ _ c.in-Err.ensures.creates (λ i. c.count.ensures i - c.count-before.ensures i) c.cut-in-Err.ensures.answer
           (c.cut-in-Err.ensures.seen ∙ ap (λ (ts : List Table). engine_after old v room ts (Cut n) (is_stop (answer_of error))) tables);
     }
@@ -71,12 +71,12 @@ overflow_add-from g c = omega (arith, c.from-2.ensures, c.div_ceil-blocks.type_i
 
 pub create-requires-clause-starts : goal.create-requires-clause-starts
 create-requires-clause-starts g c =
-    let spare = (g.S.BlockStore.state c.room.new.self).spare in
+    let spare = (g.S.BlockStore.state c.reserve.new.self).spare in
     record {
-      ready = (went_rests _ (g.S.BlockStore.state c.args.store.now) (g.S.BlockStore.state c.room.new.self) c.room.ensures.rests none c.requires.agrees.ready).lasts.ready;
+      ready = (went_rests _ (g.S.BlockStore.state c.args.store.now) (g.S.BlockStore.state c.reserve.new.self) c.reserve.ensures.rests none c.requires.agrees.ready).lasts.ready;
       spare = subst (λ (n : ℕ). 1 + n ≤ spare) (c.from-2.ensures ∙ c.div_ceil-blocks.ensures ∙ ap (λ (k : ℕ). blocks_for k c.args.capacity) (c.from.ensures ∙ sym c.requires.agrees.room.pack))
-          (at_ok c.room.result _ (sym c.is_err.ensures.value ∙ c.if-is_err.false) c.room.ensures.spare);
-      few = new_asked c.args.self.now.public (count_of c.args.self.now (g.S.BlockStore.state c.args.store.now)) c.args.table.now c.args.columns.now c.args.capacity FlatShape c.requires.allowed _ (ap (λ (l : List Access). earlier (engine_start c.args.self.now) + length l) c.room.ensures.rests.asked);
+          (at_ok c.reserve.result _ (sym c.is_err.ensures.value ∙ c.if-is_err.false) c.reserve.ensures.spare);
+      few = new_asked c.args.self.now.public (count_of c.args.self.now (g.S.BlockStore.state c.args.store.now)) c.args.table.now c.args.columns.now c.args.capacity FlatShape c.requires.allowed _ (ap (λ (l : List Access). earlier (engine_start c.args.self.now) + length l) c.reserve.ensures.rests.asked);
     }
 
 pub create-requires-clause-size : goal.create-requires-clause-size
@@ -86,4 +86,4 @@ pub create-requires-clause-room : goal.create-requires-clause-room
 create-requires-clause-room g c = new_idle c.args.self.now.public (count_of c.args.self.now (g.S.BlockStore.state c.args.store.now)) c.args.table.now c.args.columns.now c.args.capacity FlatShape c.requires.allowed c.new_schema-schema.result c.args.self.now.room c.new_schema-schema.ensures.value c.requires.agrees.room.idle
 
 pub overflow_sub-count : goal.overflow_sub-count
-overflow_sub-count g c = count_rises c.count-before.result c.count.result _ (g.S.BlockStore.state c.args.store.now) (g.S.BlockStore.state c.room.new.self) (g.S.BlockStore.state c.create.new.store) c.count-before.ensures c.room.ensures.rests c.in-Err.ensures.creates.ran.err.began c.count.ensures
+overflow_sub-count g c = count_rises c.count-before.result c.count.result _ (g.S.BlockStore.state c.args.store.now) (g.S.BlockStore.state c.reserve.new.self) (g.S.BlockStore.state c.create.new.store) c.count-before.ensures c.reserve.ensures.rests c.in-Err.ensures.creates.ran.err.began c.count.ensures

@@ -16,20 +16,20 @@ returns-then-is_err g c =
     let state = g.R.Revisions.state in
     let old = c.args.self.now in
     let s = g.S.BlockStore.state c.args.store.now in
-    let s1 = g.S.BlockStore.state c.room.new.self in
+    let s1 = g.S.BlockStore.state c.reserve.new.self in
     let stmt = Create c.args.table.now c.args.columns.now c.args.capacity Indexed in
     elim c.then-is_err.branch [
       | then-is_err-via-then-is_err w ↦ record {
         serves =
             serves_as state stmt old s s1 _ _ _ _ c.cut.ensures.answer
             (c.cut.ensures.seen ∙ ap (λ (e : Engine g.row.R.Denot). record e { seen = seen_to (Cut 0); public = record e.public { next_region = e.vault.next }; ended = true }) w.self-is)
-            (unasked_left state stmt old s c.requires.agrees c.requires.allowed refl refl s1 old.indexes old.draws old.public.tables c.room.ensures.rests);
+            (unasked_left state stmt old s c.requires.agrees c.requires.allowed refl refl s1 old.indexes old.draws old.public.tables c.reserve.ensures.rests);
       }
       | then-is_err-via-else-is_err+then-is_err-2 w ↦ record {
         serves =
             serves_as state stmt old s s1 _ _ _ _ c.cut.ensures.answer
             (c.cut.ensures.seen ∙ ap (λ (e : Engine g.row.R.Denot). record e { seen = seen_to (Cut 0); public = record e.public { next_region = e.vault.next }; ended = true }) w.self-is)
-            (unasked_left state stmt old s c.requires.agrees c.requires.allowed refl refl s1 w.reserve.new.self old.draws old.public.tables c.room.ensures.rests);
+            (unasked_left state stmt old s c.requires.agrees c.requires.allowed refl refl s1 w.reserve-else-is_err.new.self old.draws old.public.tables c.reserve.ensures.rests);
       }
     ]
 
@@ -37,36 +37,36 @@ pub returns-in_default : goal.returns-in_default
 returns-in_default g c =
     let old = c.args.self.now in
     let s = g.S.BlockStore.state c.args.store.now in
-    let s1 = g.S.BlockStore.state c.room.new.self in
+    let s1 = g.S.BlockStore.state c.reserve.new.self in
     let stmt = Create c.args.table.now c.args.columns.now c.args.capacity Indexed in
     record {
       serves =
           serves_as g.R.Revisions.state stmt old s s1 _ _ _ _ c.cut-in_default.ensures.answer c.cut-in_default.ensures.seen
-          (unasked_left g.R.Revisions.state stmt old s c.requires.agrees c.requires.allowed refl refl s1 c.reserve.new.self c.next_draws.new.draws old.public.tables c.room.ensures.rests);
+          (unasked_left g.R.Revisions.state stmt old s c.requires.agrees c.requires.allowed refl refl s1 c.reserve-else-is_err.new.self c.next_draws.new.draws old.public.tables c.reserve.ensures.rests);
     }
 
 pub returns-then-is_err-3 : goal.returns-then-is_err-3
 returns-then-is_err-3 g c =
     let old = c.args.self.now in
     let s = g.S.BlockStore.state c.args.store.now in
-    let s1 = g.S.BlockStore.state c.room.new.self in
+    let s1 = g.S.BlockStore.state c.reserve.new.self in
     let stmt = Create c.args.table.now c.args.columns.now c.args.capacity Indexed in
     record {
       serves =
           serves_as g.R.Revisions.state stmt old s s1 _ _ _ _ c.cut-then-is_err-3.ensures.answer c.cut-then-is_err-3.ensures.seen
-          (unasked_left g.R.Revisions.state stmt old s c.requires.agrees c.requires.allowed refl refl s1 c.reserve.new.self c.next_draws.new.draws c.push.new.self c.room.ensures.rests);
+          (unasked_left g.R.Revisions.state stmt old s c.requires.agrees c.requires.allowed refl refl s1 c.reserve-else-is_err.new.self c.next_draws.new.draws c.push.new.self c.reserve.ensures.rests);
     }
 
 pub create-requires-clause-starts : goal.create-requires-clause-starts
 create-requires-clause-starts g c = λ height is.
-    let s1 = g.S.BlockStore.state c.room.new.self in
+    let s1 = g.S.BlockStore.state c.reserve.new.self in
     let old = c.args.self.now in
     record {
-      ready = (went_rests _ (g.S.BlockStore.state c.args.store.now) s1 c.room.ensures.rests none c.requires.agrees.ready).lasts.ready;
+      ready = (went_rests _ (g.S.BlockStore.state c.args.store.now) s1 c.reserve.ensures.rests none c.requires.agrees.ready).lasts.ready;
       spare =
-          let room = at_ok c.room.result _ (sym c.is_err.ensures.value ∙ c.if-is_err.false) c.room.ensures.spare in
+          let room = at_ok c.reserve.result _ (sym c.is_err.ensures.value ∙ c.if-is_err.false) c.reserve.ensures.spare in
           new_spare c.args.capacity height c.from-slots.result c.from.result s1.spare is (c.from.ensures ∙ c.tree_blocks.ensures ∙ ap tree_blocks c.tree_height.ensures.value) (omega (arith, room, c.from-2.ensures));
-      few = new_asked old.public (count_of old (g.S.BlockStore.state c.args.store.now)) c.args.table.now c.args.columns.now c.args.capacity Indexed c.requires.allowed _ (ap (λ (l : List Access). earlier (engine_start old) + length l) c.room.ensures.rests.asked);
+      few = new_asked old.public (count_of old (g.S.BlockStore.state c.args.store.now)) c.args.table.now c.args.columns.now c.args.capacity Indexed c.requires.allowed _ (ap (λ (l : List Access). earlier (engine_start old) + length l) c.reserve.ensures.rests.asked);
     }
 
 pub create-requires-clause-size : goal.create-requires-clause-size
@@ -82,7 +82,7 @@ pub returns-in-Ok-create : goal.returns-in-Ok-create
 returns-in-Ok-create g c =
     let old = c.args.self.now in
     let s = g.S.BlockStore.state c.args.store.now in
-    let s1 = g.S.BlockStore.state c.room.new.self in
+    let s1 = g.S.BlockStore.state c.reserve.new.self in
     let t = g.S.BlockStore.state c.create.new.store in
     let v = c.create.new.vault in
     let room = c.create.new.room in
@@ -91,30 +91,30 @@ returns-in-Ok-create g c =
     let stmt = Create c.args.table.now c.args.columns.now c.args.capacity Indexed in
     let more = at_ok c.push.result _ (sym c.is_err-2.ensures.value ∙ c.if-is_err-3.false) c.push.ensures.ok in
     let tables = more ∙ ap (λ (u : Table). old.public.tables ++ u ∷ []) c.new_table-new.ensures.value in
-    let pushed = c.push_reserved.ensures.items ∙ ap (λ (is : List Index). is ++ c.in-Ok-create.index ∷ []) c.reserve.ensures.items in
+    let pushed = c.push_reserved.ensures.items ∙ ap (λ (is : List Index). is ++ c.in-Ok-create.index ∷ []) c.reserve-else-is_err.ensures.items in
     record {
       serves =
           serves_as g.R.Revisions.state stmt old s t _ _ _ _ (ap (λ (o : Outcome). Ok o) c.finish.ensures.answer)
           (c.finish.ensures.seen ∙ ap (λ (ts : List Table). engine_left old indexes draws v room ts (seen_to Whole) old.ended) tables)
           (made_index g.R.Revisions.state old s s1 v room t indexes draws c.as_slice.result.now c.args.table.now c.args.columns.now c.new_schema-schema.result c.args.capacity c.from-slots.result
-          c.requires.agrees c.room.ensures.rests c.create.ensures.room c.new_schema-schema.ensures.value c.from-slots.ensures c.requires.allowed c.in-Ok.ensures.next (c.as_slice.ensures.value ∙ c.in-Ok.ensures.list)
+          c.requires.agrees c.reserve.ensures.rests c.create.ensures.room c.new_schema-schema.ensures.value c.from-slots.ensures c.requires.allowed c.in-Ok.ensures.next (c.as_slice.ensures.value ∙ c.in-Ok.ensures.list)
           c.in-Ok-create.index c.in-Ok-create.ensures.creates pushed c.new_table-new.ensures.short c.new_schema-schema.ensures.names c.requires.lives);
     }
 
 pub overflow_sub-count : goal.overflow_sub-count
 overflow_sub-count g c =
     let regions = c.in-Err.ensures.creates.regions (height_of c.args.capacity) (is_height_of c.args.capacity) in
-    count_rises c.count-before.result c.count.result _ (g.S.BlockStore.state c.args.store.now) (g.S.BlockStore.state c.room.new.self) (g.S.BlockStore.state c.create.new.store) c.count-before.ensures c.room.ensures.rests regions.ran.err.began c.count.ensures
+    count_rises c.count-before.result c.count.result _ (g.S.BlockStore.state c.args.store.now) (g.S.BlockStore.state c.reserve.new.self) (g.S.BlockStore.state c.create.new.store) c.count-before.ensures c.reserve.ensures.rests regions.ran.err.began c.count.ensures
 
 pub returns : goal.returns
 returns g c =
     let old = c.args.self.now in
     let s = g.S.BlockStore.state c.args.store.now in
-    let s1 = g.S.BlockStore.state c.room.new.self in
+    let s1 = g.S.BlockStore.state c.reserve.new.self in
     let t = g.S.BlockStore.state c.create.new.store in
     let v = c.create.new.vault in
     let room = c.create.new.room in
-    let indexes = c.reserve.new.self in
+    let indexes = c.reserve-else-is_err.new.self in
     let draws = c.next_draws.new.draws in
     let error = c.in-Err.error in
     let n = c.count.result - c.count-before.result in
@@ -126,6 +126,6 @@ returns g c =
           serves_as g.R.Revisions.state stmt old s t _ _ _ _ c.cut-in-Err.ensures.answer
           (c.cut-in-Err.ensures.seen ∙ ap (λ (ts : List Table). engine_left old indexes draws v room ts (seen_to (Cut n)) (is_stop (answer_of error))) tables)
           (not_made g.R.Revisions.state old s s1 v room t indexes draws c.as_slice.result.now c.args.table.now c.args.columns.now c.new_schema-schema.result c.args.capacity c.from-slots.result
-          c.requires.agrees c.room.ensures.rests c.create.ensures.room c.new_schema-schema.ensures.value c.from-slots.ensures c.requires.allowed c.in-Ok.ensures.next (c.as_slice.ensures.value ∙ c.in-Ok.ensures.list)
-          error c.in-Err.ensures.creates c.reserve.ensures.items n (λ i. c.count.ensures i - c.count-before.ensures i));
+          c.requires.agrees c.reserve.ensures.rests c.create.ensures.room c.new_schema-schema.ensures.value c.from-slots.ensures c.requires.allowed c.in-Ok.ensures.next (c.as_slice.ensures.value ∙ c.in-Ok.ensures.list)
+          error c.in-Err.ensures.creates c.reserve-else-is_err.ensures.items n (λ i. c.count.ensures i - c.count-before.ensures i));
     }

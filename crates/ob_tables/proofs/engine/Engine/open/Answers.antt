@@ -15,8 +15,8 @@ returns-then-is_err g c =
           let same = c.closing_of-closing.ensures c.args.config.pack closing is in
           let marked : IsMarked c.closing_of-closing.result = subst (λ (x : Closing). IsMarked x) (sym same) (closed_marked c.args.mark.now c.args.config.pack closing is) in
           let pack : c.closing_of-closing.result.pack ≡ c.args.config.pack = ap (λ (x : Closing). x.pack) same ∙ closed_pack c.args.mark.now c.args.config.pack closing is in
-          subst (λ (x : Closing). OpensEngine {R = g.row.R.Denot} g.R.Revisions.state c.args.config c.args.keys x (Err NoMemory) (g.S.BlockStore.state c.args.store.now) (g.S.BlockStore.state c.room.new.self)) same
-          (not_begun g.R.Revisions.state c.args.config c.args.keys c.closing_of-closing.result marked (g.S.BlockStore.state c.args.store.now) (g.S.BlockStore.state c.room.new.self) c.requires.fresh (g.met.S.BlockStore.starts_honest c.args.store.now c.requires.fresh) c.room.ensures.rests);
+          subst (λ (x : Closing). OpensEngine {R = g.row.R.Denot} g.R.Revisions.state c.args.config c.args.keys x (Err NoMemory) (g.S.BlockStore.state c.args.store.now) (g.S.BlockStore.state c.reserve.new.self)) same
+          (not_begun g.R.Revisions.state c.args.config c.args.keys c.closing_of-closing.result marked (g.S.BlockStore.state c.args.store.now) (g.S.BlockStore.state c.reserve.new.self) c.requires.fresh (g.met.S.BlockStore.starts_honest c.args.store.now c.requires.fresh) c.reserve.ensures.rests);
     }
 
 pub returns-in_default : goal.returns-in_default
@@ -26,8 +26,8 @@ returns-in_default g c =
           let same = c.closing_of-closing.ensures c.args.config.pack closing is in
           let marked : IsMarked c.closing_of-closing.result = subst (λ (x : Closing). IsMarked x) (sym same) (closed_marked c.args.mark.now c.args.config.pack closing is) in
           let pack : c.closing_of-closing.result.pack ≡ c.args.config.pack = ap (λ (x : Closing). x.pack) same ∙ closed_pack c.args.mark.now c.args.config.pack closing is in
-          subst (λ (x : Closing). OpensEngine {R = g.row.R.Denot} g.R.Revisions.state c.args.config c.args.keys x (Err NoMemory) (g.S.BlockStore.state c.args.store.now) (g.S.BlockStore.state c.room.new.self)) same
-          (not_begun g.R.Revisions.state c.args.config c.args.keys c.closing_of-closing.result marked (g.S.BlockStore.state c.args.store.now) (g.S.BlockStore.state c.room.new.self) c.requires.fresh (g.met.S.BlockStore.starts_honest c.args.store.now c.requires.fresh) c.room.ensures.rests);
+          subst (λ (x : Closing). OpensEngine {R = g.row.R.Denot} g.R.Revisions.state c.args.config c.args.keys x (Err NoMemory) (g.S.BlockStore.state c.args.store.now) (g.S.BlockStore.state c.reserve.new.self)) same
+          (not_begun g.R.Revisions.state c.args.config c.args.keys c.closing_of-closing.result marked (g.S.BlockStore.state c.args.store.now) (g.S.BlockStore.state c.reserve.new.self) c.requires.fresh (g.met.S.BlockStore.starts_honest c.args.store.now c.requires.fresh) c.reserve.ensures.rests);
     }
 
 pub read_closing-requires-clause-marked : goal.read_closing-requires-clause-marked
@@ -41,10 +41,10 @@ read_closing-requires-clause-follows g c =
     let closed = c.requires.closed in
     let same = c.closing_of-closing.ensures c.args.config.pack closed.0 closed.1 in
     let marked : IsMarked c.closing_of-closing.result = subst (λ (x : Closing). IsMarked x) (sym same) (closed_marked c.args.mark.now c.args.config.pack closed.0 closed.1) in
-    let made : 2 * c.from.result ≤ (g.S.BlockStore.state c.room.new.self).spare = at_ok c.room.result _ (sym c.is_err.ensures.value ∙ c.if-is_err.false) c.room.ensures.spare in
-    follows g.R.Revisions.state c.args.config c.args.keys c.closing_of-closing.result marked (g.S.BlockStore.state c.args.store.now) (g.S.BlockStore.state c.room.new.self) c.requires.fresh (g.met.S.BlockStore.starts_honest c.args.store.now c.requires.fresh) c.room.ensures.rests
+    let made : 2 * c.from.result ≤ (g.S.BlockStore.state c.reserve.new.self).spare = at_ok c.reserve.result _ (sym c.is_err.ensures.value ∙ c.if-is_err.false) c.reserve.ensures.spare in
+    follows g.R.Revisions.state c.args.config c.args.keys c.closing_of-closing.result marked (g.S.BlockStore.state c.args.store.now) (g.S.BlockStore.state c.reserve.new.self) c.requires.fresh (g.met.S.BlockStore.starts_honest c.args.store.now c.requires.fresh) c.reserve.ensures.rests
     c.start_at-vault.result c.start_at-vault.ensures.ready (started_as c.closing_of-closing.result _ _ _ c.from-3.result c.start_at-vault.ensures.started refl c.from-3.ensures (omega arith))
-    c.start_at-vault.ensures.keyed c.start_at-vault.ensures.empty (subst (λ (n : ℕ). 2 * n ≤ (g.S.BlockStore.state c.room.new.self).spare) c.from.ensures made)
+    c.start_at-vault.ensures.keyed c.start_at-vault.ensures.empty (subst (λ (n : ℕ). 2 * n ≤ (g.S.BlockStore.state c.reserve.new.self).spare) c.from.ensures made)
 
 pub returns-in_err-listed : goal.returns-in_err-listed
 returns-in_err-listed g c =
@@ -55,8 +55,8 @@ returns-in_err-listed g c =
           let marked : IsMarked c.closing_of-closing.result = subst (λ (x : Closing). IsMarked x) (sym same) (closed_marked c.args.mark.now c.args.config.pack closing is) in
           let pack : c.closing_of-closing.result.pack ≡ c.args.config.pack = ap (λ (x : Closing). x.pack) same ∙ closed_pack c.args.mark.now c.args.config.pack closing is in
           subst (λ (x : Closing). OpensEngine {R = g.row.R.Denot} g.R.Revisions.state c.args.config c.args.keys x (Err c.in_err-listed.field-0.0) (g.S.BlockStore.state c.args.store.now) (g.S.BlockStore.state c.read_closing.new.store)) same
-          (opens_unread g.R.Revisions.state c.args.config c.args.keys c.closing_of-closing.result marked pack c.requires.config (g.S.BlockStore.state c.args.store.now) (g.S.BlockStore.state c.room.new.self) c.requires.fresh (g.met.S.BlockStore.starts_honest c.args.store.now c.requires.fresh)
-          (λ q. g.met.S.BlockStore.starts_empty c.args.store.now q c.requires.fresh) (λ q region kept. g.met.S.BlockStore.keeps_within c.args.store.now q region kept) c.room.ensures.rests
+          (opens_unread g.R.Revisions.state c.args.config c.args.keys c.closing_of-closing.result marked pack c.requires.config (g.S.BlockStore.state c.args.store.now) (g.S.BlockStore.state c.reserve.new.self) c.requires.fresh (g.met.S.BlockStore.starts_honest c.args.store.now c.requires.fresh)
+          (λ q. g.met.S.BlockStore.starts_empty c.args.store.now q c.requires.fresh) (λ q region kept. g.met.S.BlockStore.keeps_within c.args.store.now q region kept) c.reserve.ensures.rests
           c.start_at-vault.result c.start_at-vault.ensures.ready (started_as c.closing_of-closing.result _ _ _ c.from-3.result c.start_at-vault.ensures.started refl c.from-3.ensures (omega arith))
           c.start_at-vault.ensures.keyed c.start_at-vault.ensures.empty c.read_closing.new.vault (g.S.BlockStore.state c.read_closing.new.store) c.in_err-listed.field-0.0 c.in_err-listed.ensures.reads);
     })
@@ -72,12 +72,12 @@ reopen_tables-requires-clause-spare g c =
     let closed = c.requires.closed in
     let same = c.closing_of-closing.ensures c.args.config.pack closed.0 closed.1 in
     let marked : IsMarked c.closing_of-closing.result = subst (λ (x : Closing). IsMarked x) (sym same) (closed_marked c.args.mark.now c.args.config.pack closed.0 closed.1) in
-    let made : 2 * c.from.result ≤ (g.S.BlockStore.state c.room.new.self).spare = at_ok c.room.result _ (sym c.is_err.ensures.value ∙ c.if-is_err.false) c.room.ensures.spare in
+    let made : 2 * c.from.result ≤ (g.S.BlockStore.state c.reserve.new.self).spare = at_ok c.reserve.result _ (sym c.is_err.ensures.value ∙ c.if-is_err.false) c.reserve.ensures.spare in
     subst (λ (l : List Listed). length l ≤ (g.S.BlockStore.state c.read_closing.new.store).spare) (sym c.as_slice.ensures)
-    (spare_tables g.R.Revisions.state c.args.config c.args.keys c.closing_of-closing.result marked (g.S.BlockStore.state c.args.store.now) (g.S.BlockStore.state c.room.new.self) c.requires.fresh (g.met.S.BlockStore.starts_honest c.args.store.now c.requires.fresh) c.room.ensures.rests
+    (spare_tables g.R.Revisions.state c.args.config c.args.keys c.closing_of-closing.result marked (g.S.BlockStore.state c.args.store.now) (g.S.BlockStore.state c.reserve.new.self) c.requires.fresh (g.met.S.BlockStore.starts_honest c.args.store.now c.requires.fresh) c.reserve.ensures.rests
     c.start_at-vault.result c.start_at-vault.ensures.ready (started_as c.closing_of-closing.result _ _ _ c.from-3.result c.start_at-vault.ensures.started refl c.from-3.ensures (omega arith))
     c.start_at-vault.ensures.keyed c.start_at-vault.ensures.empty c.read_closing.new.vault (g.S.BlockStore.state c.read_closing.new.store) c.in_ok-listed.listed c.in_ok-listed.ensures.reads
-    (subst (λ (n : ℕ). 2 * n ≤ (g.S.BlockStore.state c.room.new.self).spare) c.from.ensures made))
+    (subst (λ (n : ℕ). 2 * n ≤ (g.S.BlockStore.state c.reserve.new.self).spare) c.from.ensures made))
 
 pub returns-in_err-reopen_tables : goal.returns-in_err-reopen_tables
 returns-in_err-reopen_tables g c =
@@ -91,8 +91,8 @@ returns-in_err-reopen_tables g c =
           let marked : IsMarked c.closing_of-closing.result = subst (λ (x : Closing). IsMarked x) (sym same) (closed_marked c.args.mark.now c.args.config.pack closing is) in
           let pack : c.closing_of-closing.result.pack ≡ c.args.config.pack = ap (λ (x : Closing). x.pack) same ∙ closed_pack c.args.mark.now c.args.config.pack closing is in
           subst (λ (x : Closing). OpensEngine {R = g.row.R.Denot} g.R.Revisions.state c.args.config c.args.keys x (Err c.in_err-reopen_tables.field-0.0) (g.S.BlockStore.state c.args.store.now) (g.S.BlockStore.state c.reopen_tables.new.store)) same
-          (opens_shut g.R.Revisions.state c.args.config c.args.keys c.closing_of-closing.result marked pack c.requires.config (g.S.BlockStore.state c.args.store.now) (g.S.BlockStore.state c.room.new.self) c.requires.fresh (g.met.S.BlockStore.starts_honest c.args.store.now c.requires.fresh)
-          (λ q. g.met.S.BlockStore.starts_empty c.args.store.now q c.requires.fresh) (λ q region kept. g.met.S.BlockStore.keeps_within c.args.store.now q region kept) c.room.ensures.rests
+          (opens_shut g.R.Revisions.state c.args.config c.args.keys c.closing_of-closing.result marked pack c.requires.config (g.S.BlockStore.state c.args.store.now) (g.S.BlockStore.state c.reserve.new.self) c.requires.fresh (g.met.S.BlockStore.starts_honest c.args.store.now c.requires.fresh)
+          (λ q. g.met.S.BlockStore.starts_empty c.args.store.now q c.requires.fresh) (λ q region kept. g.met.S.BlockStore.keeps_within c.args.store.now q region kept) c.reserve.ensures.rests
           c.start_at-vault.result c.start_at-vault.ensures.ready (started_as c.closing_of-closing.result _ _ _ c.from-3.result c.start_at-vault.ensures.started refl c.from-3.ensures (omega arith))
           c.start_at-vault.ensures.keyed c.start_at-vault.ensures.empty c.read_closing.new.vault (g.S.BlockStore.state c.read_closing.new.store) c.in_ok-listed.listed c.in_ok-listed.ensures.reads c.in_err-reopen_tables.field-0.0 c.reopen_tables.new.vault (g.S.BlockStore.state c.reopen_tables.new.store) reopens);
     })
@@ -108,8 +108,8 @@ returns-in_default-tables_of g c =
           let marked : IsMarked c.closing_of-closing.result = subst (λ (x : Closing). IsMarked x) (sym same) (closed_marked c.args.mark.now c.args.config.pack closing is) in
           let pack : c.closing_of-closing.result.pack ≡ c.args.config.pack = ap (λ (x : Closing). x.pack) same ∙ closed_pack c.args.mark.now c.args.config.pack closing is in
           subst (λ (x : Closing). OpensEngine {R = g.row.R.Denot} g.R.Revisions.state c.args.config c.args.keys x (Err NoMemory) (g.S.BlockStore.state c.args.store.now) (g.S.BlockStore.state c.reopen_tables.new.store)) same
-          (opens_unlisted g.R.Revisions.state c.args.config c.args.keys c.closing_of-closing.result marked pack c.requires.config (g.S.BlockStore.state c.args.store.now) (g.S.BlockStore.state c.room.new.self) c.requires.fresh (g.met.S.BlockStore.starts_honest c.args.store.now c.requires.fresh)
-          (λ q. g.met.S.BlockStore.starts_empty c.args.store.now q c.requires.fresh) (λ q region kept. g.met.S.BlockStore.keeps_within c.args.store.now q region kept) c.room.ensures.rests
+          (opens_unlisted g.R.Revisions.state c.args.config c.args.keys c.closing_of-closing.result marked pack c.requires.config (g.S.BlockStore.state c.args.store.now) (g.S.BlockStore.state c.reserve.new.self) c.requires.fresh (g.met.S.BlockStore.starts_honest c.args.store.now c.requires.fresh)
+          (λ q. g.met.S.BlockStore.starts_empty c.args.store.now q c.requires.fresh) (λ q region kept. g.met.S.BlockStore.keeps_within c.args.store.now q region kept) c.reserve.ensures.rests
           c.start_at-vault.result c.start_at-vault.ensures.ready (started_as c.closing_of-closing.result _ _ _ c.from-3.result c.start_at-vault.ensures.started refl c.from-3.ensures (omega arith))
           c.start_at-vault.ensures.keyed c.start_at-vault.ensures.empty c.read_closing.new.vault (g.S.BlockStore.state c.read_closing.new.store) c.in_ok-listed.listed c.in_ok-listed.ensures.reads c.in_ok-reopen_tables.field-0 (g.S.BlockStore.state c.reopen_tables.new.store) c.reopen_tables.new.vault reopens);
     }
@@ -140,8 +140,8 @@ returns g c =
           let marked : IsMarked c.closing_of-closing.result = subst (λ (x : Closing). IsMarked x) (sym same) (closed_marked c.args.mark.now c.args.config.pack closing is) in
           let pack : c.closing_of-closing.result.pack ≡ c.args.config.pack = ap (λ (x : Closing). x.pack) same ∙ closed_pack c.args.mark.now c.args.config.pack closing is in
           subst (λ (x : Closing). OpensEngine {R = g.row.R.Denot} g.R.Revisions.state c.args.config c.args.keys x (Ok e) (g.S.BlockStore.state c.args.store.now) (g.S.BlockStore.state c.reopen_tables.new.store)) same
-          (opens_all g.R.Revisions.state c.args.config c.args.keys c.closing_of-closing.result marked pack c.requires.config (g.S.BlockStore.state c.args.store.now) (g.S.BlockStore.state c.room.new.self) c.requires.fresh (g.met.S.BlockStore.starts_honest c.args.store.now c.requires.fresh)
-          (λ q. g.met.S.BlockStore.starts_empty c.args.store.now q c.requires.fresh) (λ q region kept. g.met.S.BlockStore.keeps_within c.args.store.now q region kept) c.room.ensures.rests
+          (opens_all g.R.Revisions.state c.args.config c.args.keys c.closing_of-closing.result marked pack c.requires.config (g.S.BlockStore.state c.args.store.now) (g.S.BlockStore.state c.reserve.new.self) c.requires.fresh (g.met.S.BlockStore.starts_honest c.args.store.now c.requires.fresh)
+          (λ q. g.met.S.BlockStore.starts_empty c.args.store.now q c.requires.fresh) (λ q region kept. g.met.S.BlockStore.keeps_within c.args.store.now q region kept) c.reserve.ensures.rests
           c.start_at-vault.result c.start_at-vault.ensures.ready (started_as c.closing_of-closing.result _ _ _ c.from-3.result c.start_at-vault.ensures.started refl c.from-3.ensures (omega arith))
           c.start_at-vault.ensures.keyed c.start_at-vault.ensures.empty c.read_closing.new.vault (g.S.BlockStore.state c.read_closing.new.store) c.in_ok-listed.listed c.in_ok-listed.ensures.reads c.in_ok-reopen_tables.field-0 (g.S.BlockStore.state c.reopen_tables.new.store) e reopens public refl c.new-2.ensures.items (c.new-draws.ensures ∙ (λ i. record { key = key_of (c.draw_seed.ensures i); next = 0 })) refl (room_read c.args.config e.public c.in-Ok.room c.read_closing.new.room c.requires.config new c.read_closing.ensures.room (ap (λ (p : Public). p.buffer) public) (ap (λ (p : Public). p.pack) public)) (high_read c.args.config c.in-Ok.room c.read_closing.new.room new c.read_closing.ensures.room) (rows_read c.args.config c.in-Ok.room c.read_closing.new.room new c.read_closing.ensures.room) refl);
     }

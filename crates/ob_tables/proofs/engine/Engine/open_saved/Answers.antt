@@ -13,22 +13,22 @@ use Rattle.ob_tables.proofs.engine.Engine.open_saved.Goals as goal
 pub returns-then-is_err : goal.returns-then-is_err
 returns-then-is_err g c =
     record {
-      opens = named_saved {R = g.row.R.Denot} g.R.Revisions.state c.args.config c.args.secret.now c.args.salt.now c.args.mark.now c.closing_of-closed.result.0 c.closing_of-closed.result.1 (Err NoMemory) (g.S.BlockStore.state c.args.store.now) (g.S.BlockStore.state c.room.new.self) c.closing_of-closed.ensures
-          (λ marked pack. saved_none g.R.Revisions.state c.args.config c.args.secret.now c.args.salt.now c.closing_of-closed.result.1 c.closing_of-closed.result.0 marked (g.S.BlockStore.state c.args.store.now) (g.S.BlockStore.state c.room.new.self) c.requires.fresh (g.met.S.BlockStore.starts_honest c.args.store.now c.requires.fresh) (λ q. g.met.S.BlockStore.starts_empty c.args.store.now q c.requires.fresh) c.room.ensures.rests);
+      opens = named_saved {R = g.row.R.Denot} g.R.Revisions.state c.args.config c.args.secret.now c.args.salt.now c.args.mark.now c.closing_of-closed.result.0 c.closing_of-closed.result.1 (Err NoMemory) (g.S.BlockStore.state c.args.store.now) (g.S.BlockStore.state c.reserve.new.self) c.closing_of-closed.ensures
+          (λ marked pack. saved_none g.R.Revisions.state c.args.config c.args.secret.now c.args.salt.now c.closing_of-closed.result.1 c.closing_of-closed.result.0 marked (g.S.BlockStore.state c.args.store.now) (g.S.BlockStore.state c.reserve.new.self) c.requires.fresh (g.met.S.BlockStore.starts_honest c.args.store.now c.requires.fresh) (λ q. g.met.S.BlockStore.starts_empty c.args.store.now q c.requires.fresh) c.reserve.ensures.rests);
     }
 
 pub returns-in_default : goal.returns-in_default
 returns-in_default g c =
     record {
-      opens = named_saved {R = g.row.R.Denot} g.R.Revisions.state c.args.config c.args.secret.now c.args.salt.now c.args.mark.now c.closing_of-closed.result.0 c.closing_of-closed.result.1 (Err NoMemory) (g.S.BlockStore.state c.args.store.now) (g.S.BlockStore.state c.room.new.self) c.closing_of-closed.ensures
-          (λ marked pack. saved_none g.R.Revisions.state c.args.config c.args.secret.now c.args.salt.now c.closing_of-closed.result.1 c.closing_of-closed.result.0 marked (g.S.BlockStore.state c.args.store.now) (g.S.BlockStore.state c.room.new.self) c.requires.fresh (g.met.S.BlockStore.starts_honest c.args.store.now c.requires.fresh) (λ q. g.met.S.BlockStore.starts_empty c.args.store.now q c.requires.fresh) c.room.ensures.rests);
+      opens = named_saved {R = g.row.R.Denot} g.R.Revisions.state c.args.config c.args.secret.now c.args.salt.now c.args.mark.now c.closing_of-closed.result.0 c.closing_of-closed.result.1 (Err NoMemory) (g.S.BlockStore.state c.args.store.now) (g.S.BlockStore.state c.reserve.new.self) c.closing_of-closed.ensures
+          (λ marked pack. saved_none g.R.Revisions.state c.args.config c.args.secret.now c.args.salt.now c.closing_of-closed.result.1 c.closing_of-closed.result.0 marked (g.S.BlockStore.state c.args.store.now) (g.S.BlockStore.state c.reserve.new.self) c.requires.fresh (g.met.S.BlockStore.starts_honest c.args.store.now c.requires.fresh) (λ q. g.met.S.BlockStore.starts_empty c.args.store.now q c.requires.fresh) c.reserve.ensures.rests);
     }
 
 pub returns-in_default-keys_from : goal.returns-in_default-keys_from
 returns-in_default-keys_from g c =
     record {
-      opens = named_saved {R = g.row.R.Denot} g.R.Revisions.state c.args.config c.args.secret.now c.args.salt.now c.args.mark.now c.closing_of-closed.result.0 c.closing_of-closed.result.1 (Err NoMemory) (g.S.BlockStore.state c.args.store.now) (g.S.BlockStore.state c.room.new.self) c.closing_of-closed.ensures
-          (λ marked pack. saved_none g.R.Revisions.state c.args.config c.args.secret.now c.args.salt.now c.closing_of-closed.result.1 c.closing_of-closed.result.0 marked (g.S.BlockStore.state c.args.store.now) (g.S.BlockStore.state c.room.new.self) c.requires.fresh (g.met.S.BlockStore.starts_honest c.args.store.now c.requires.fresh) (λ q. g.met.S.BlockStore.starts_empty c.args.store.now q c.requires.fresh) c.room.ensures.rests);
+      opens = named_saved {R = g.row.R.Denot} g.R.Revisions.state c.args.config c.args.secret.now c.args.salt.now c.args.mark.now c.closing_of-closed.result.0 c.closing_of-closed.result.1 (Err NoMemory) (g.S.BlockStore.state c.args.store.now) (g.S.BlockStore.state c.reserve.new.self) c.closing_of-closed.ensures
+          (λ marked pack. saved_none g.R.Revisions.state c.args.config c.args.secret.now c.args.salt.now c.closing_of-closed.result.1 c.closing_of-closed.result.0 marked (g.S.BlockStore.state c.args.store.now) (g.S.BlockStore.state c.reserve.new.self) c.requires.fresh (g.met.S.BlockStore.starts_honest c.args.store.now c.requires.fresh) (λ q. g.met.S.BlockStore.starts_empty c.args.store.now q c.requires.fresh) c.reserve.ensures.rests);
     }
 
 pub read_closing-requires-clause-marked : goal.read_closing-requires-clause-marked
@@ -43,24 +43,24 @@ read_closing-requires-clause-follows g c =
     let closed = c.requires.closed in
     let same = c.closing_of-closed.ensures c.args.config.pack closed.0 closed.1 closed.2 in
     let marked : IsMarked c.closing_of-closed.result.0 = subst (λ (x : Closing). IsMarked x) (sym same.0) (named_marked c.args.mark.now c.args.config.pack closed.0 closed.1 closed.2) in
-    let made : 2 * c.from.result ≤ (g.S.BlockStore.state c.room.new.self).spare = at_ok c.room.result _ (sym c.is_err.ensures.value ∙ c.if-is_err.false) c.room.ensures.spare in
-    follows g.R.Revisions.state c.args.config (reopening_keys c.args.secret.now c.args.salt.now c.closing_of-closed.result.1 c.closing_of-closed.result.0 []) c.closing_of-closed.result.0 marked (g.S.BlockStore.state c.args.store.now) (g.S.BlockStore.state c.room.new.self) c.requires.fresh (g.met.S.BlockStore.starts_honest c.args.store.now c.requires.fresh) c.room.ensures.rests
+    let made : 2 * c.from.result ≤ (g.S.BlockStore.state c.reserve.new.self).spare = at_ok c.reserve.result _ (sym c.is_err.ensures.value ∙ c.if-is_err.false) c.reserve.ensures.spare in
+    follows g.R.Revisions.state c.args.config (reopening_keys c.args.secret.now c.args.salt.now c.closing_of-closed.result.1 c.closing_of-closed.result.0 []) c.closing_of-closed.result.0 marked (g.S.BlockStore.state c.args.store.now) (g.S.BlockStore.state c.reserve.new.self) c.requires.fresh (g.met.S.BlockStore.starts_honest c.args.store.now c.requires.fresh) c.reserve.ensures.rests
     c.start_at-vault.result c.start_at-vault.ensures.ready (started_as c.closing_of-closed.result.0 _ _ _ c.from-3.result c.start_at-vault.ensures.started refl c.from-3.ensures (omega arith))
-    (c.start_at-vault.ensures.keyed ∙ c.in-Ok-keys_from.ensures) c.start_at-vault.ensures.empty (subst (λ (n : ℕ). 2 * n ≤ (g.S.BlockStore.state c.room.new.self).spare) c.from.ensures made)
+    (c.start_at-vault.ensures.keyed ∙ c.in-Ok-keys_from.ensures) c.start_at-vault.ensures.empty (subst (λ (n : ℕ). 2 * n ≤ (g.S.BlockStore.state c.reserve.new.self).spare) c.from.ensures made)
 
 pub returns-in_err-listed : goal.returns-in_err-listed
 returns-in_err-listed g c =
     let p = err_from_is_err_and c.from_residual.result c.from_residual.ensures.1 in
     rw (p.1, p.2) (record {
       opens = named_saved {R = g.row.R.Denot} g.R.Revisions.state c.args.config c.args.secret.now c.args.salt.now c.args.mark.now c.closing_of-closed.result.0 c.closing_of-closed.result.1 (Err c.in_err-listed.field-0.0) (g.S.BlockStore.state c.args.store.now) (g.S.BlockStore.state c.read_closing.new.store) c.closing_of-closed.ensures
-          (λ marked pack. saved_unread g.R.Revisions.state c.args.config c.args.secret.now c.args.salt.now c.closing_of-closed.result.1 c.closing_of-closed.result.0 marked (g.S.BlockStore.state c.args.store.now) (g.S.BlockStore.state c.room.new.self) c.requires.fresh (g.met.S.BlockStore.starts_honest c.args.store.now c.requires.fresh) (λ q. g.met.S.BlockStore.starts_empty c.args.store.now q c.requires.fresh) c.room.ensures.rests c.start_at-vault.result c.start_at-vault.ensures.ready (started_as c.closing_of-closed.result.0 _ _ _ c.from-3.result c.start_at-vault.ensures.started refl c.from-3.ensures (omega arith)) (c.start_at-vault.ensures.keyed ∙ c.in-Ok-keys_from.ensures) c.start_at-vault.ensures.empty c.read_closing.new.vault (g.S.BlockStore.state c.read_closing.new.store) c.in_err-listed.field-0.0 c.in_err-listed.ensures.reads);
+          (λ marked pack. saved_unread g.R.Revisions.state c.args.config c.args.secret.now c.args.salt.now c.closing_of-closed.result.1 c.closing_of-closed.result.0 marked (g.S.BlockStore.state c.args.store.now) (g.S.BlockStore.state c.reserve.new.self) c.requires.fresh (g.met.S.BlockStore.starts_honest c.args.store.now c.requires.fresh) (λ q. g.met.S.BlockStore.starts_empty c.args.store.now q c.requires.fresh) c.reserve.ensures.rests c.start_at-vault.result c.start_at-vault.ensures.ready (started_as c.closing_of-closed.result.0 _ _ _ c.from-3.result c.start_at-vault.ensures.started refl c.from-3.ensures (omega arith)) (c.start_at-vault.ensures.keyed ∙ c.in-Ok-keys_from.ensures) c.start_at-vault.ensures.empty c.read_closing.new.vault (g.S.BlockStore.state c.read_closing.new.store) c.in_err-listed.field-0.0 c.in_err-listed.ensures.reads);
     })
 
 pub returns-in_default-keys_from-2 : goal.returns-in_default-keys_from-2
 returns-in_default-keys_from-2 g c =
     record {
       opens = named_saved {R = g.row.R.Denot} g.R.Revisions.state c.args.config c.args.secret.now c.args.salt.now c.args.mark.now c.closing_of-closed.result.0 c.closing_of-closed.result.1 (Err NoMemory) (g.S.BlockStore.state c.args.store.now) (g.S.BlockStore.state c.read_closing.new.store) c.closing_of-closed.ensures
-          (λ marked pack. saved_unkeyed g.R.Revisions.state c.args.config c.args.secret.now c.args.salt.now c.closing_of-closed.result.1 c.closing_of-closed.result.0 marked (g.S.BlockStore.state c.args.store.now) (g.S.BlockStore.state c.room.new.self) c.requires.fresh (g.met.S.BlockStore.starts_honest c.args.store.now c.requires.fresh) (λ q. g.met.S.BlockStore.starts_empty c.args.store.now q c.requires.fresh) c.room.ensures.rests c.start_at-vault.result c.start_at-vault.ensures.ready (started_as c.closing_of-closed.result.0 _ _ _ c.from-3.result c.start_at-vault.ensures.started refl c.from-3.ensures (omega arith)) (c.start_at-vault.ensures.keyed ∙ c.in-Ok-keys_from.ensures) c.start_at-vault.ensures.empty c.read_closing.new.vault (g.S.BlockStore.state c.read_closing.new.store) c.in_ok-listed.listed c.in_ok-listed.ensures.reads);
+          (λ marked pack. saved_unkeyed g.R.Revisions.state c.args.config c.args.secret.now c.args.salt.now c.closing_of-closed.result.1 c.closing_of-closed.result.0 marked (g.S.BlockStore.state c.args.store.now) (g.S.BlockStore.state c.reserve.new.self) c.requires.fresh (g.met.S.BlockStore.starts_honest c.args.store.now c.requires.fresh) (λ q. g.met.S.BlockStore.starts_empty c.args.store.now q c.requires.fresh) c.reserve.ensures.rests c.start_at-vault.result c.start_at-vault.ensures.ready (started_as c.closing_of-closed.result.0 _ _ _ c.from-3.result c.start_at-vault.ensures.started refl c.from-3.ensures (omega arith)) (c.start_at-vault.ensures.keyed ∙ c.in-Ok-keys_from.ensures) c.start_at-vault.ensures.empty c.read_closing.new.vault (g.S.BlockStore.state c.read_closing.new.store) c.in_ok-listed.listed c.in_ok-listed.ensures.reads);
     }
 
 pub reopen_tables-requires-clause-marked : goal.reopen_tables-requires-clause-marked
@@ -81,18 +81,18 @@ reopen_tables-requires-clause-awaits g c =
     let marked : IsMarked c.closing_of-closed.result.0 = subst (λ (x : Closing). IsMarked x) (sym same.0) (named_marked c.args.mark.now c.args.config.pack closed.0 closed.1 closed.2) in
     let keyed : c.in-Ok-keys_from-2.keys ≡ reopening_keys c.args.secret.now c.args.salt.now c.closing_of-closed.result.1 c.closing_of-closed.result.0 c.in_ok-listed.listed =
     c.in-Ok-keys_from-2.ensures ∙ ap (reopening_keys c.args.secret.now c.args.salt.now c.closing_of-closed.result.1 c.closing_of-closed.result.0) c.as_slice.ensures in
-    (reads_first g.R.Revisions.state c.args.config c.args.secret.now c.args.salt.now c.closing_of-closed.result.1 c.closing_of-closed.result.0 marked (g.S.BlockStore.state c.args.store.now) (g.S.BlockStore.state c.room.new.self) c.requires.fresh (g.met.S.BlockStore.starts_honest c.args.store.now c.requires.fresh) (λ q. g.met.S.BlockStore.starts_empty c.args.store.now q c.requires.fresh) c.room.ensures.rests c.start_at-vault.result c.start_at-vault.ensures.ready (started_as c.closing_of-closed.result.0 _ _ _ c.from-3.result c.start_at-vault.ensures.started refl c.from-3.ensures (omega arith)) (c.start_at-vault.ensures.keyed ∙ c.in-Ok-keys_from.ensures) c.start_at-vault.ensures.empty c.read_closing.new.vault (g.S.BlockStore.state c.read_closing.new.store) c.in_ok-listed.listed c.in_ok-listed.ensures.reads c.rekey.new.self (λ x. c.rekey.ensures x ∙ ap (λ (k : KeySet). rekeyed k (at g.R.Revisions.state c.read_closing.new.vault x)) keyed)).awaits
+    (reads_first g.R.Revisions.state c.args.config c.args.secret.now c.args.salt.now c.closing_of-closed.result.1 c.closing_of-closed.result.0 marked (g.S.BlockStore.state c.args.store.now) (g.S.BlockStore.state c.reserve.new.self) c.requires.fresh (g.met.S.BlockStore.starts_honest c.args.store.now c.requires.fresh) (λ q. g.met.S.BlockStore.starts_empty c.args.store.now q c.requires.fresh) c.reserve.ensures.rests c.start_at-vault.result c.start_at-vault.ensures.ready (started_as c.closing_of-closed.result.0 _ _ _ c.from-3.result c.start_at-vault.ensures.started refl c.from-3.ensures (omega arith)) (c.start_at-vault.ensures.keyed ∙ c.in-Ok-keys_from.ensures) c.start_at-vault.ensures.empty c.read_closing.new.vault (g.S.BlockStore.state c.read_closing.new.store) c.in_ok-listed.listed c.in_ok-listed.ensures.reads c.rekey.new.self (λ x. c.rekey.ensures x ∙ ap (λ (k : KeySet). rekeyed k (at g.R.Revisions.state c.read_closing.new.vault x)) keyed)).awaits
 
 pub reopen_tables-requires-clause-spare : goal.reopen_tables-requires-clause-spare
 reopen_tables-requires-clause-spare g c =
     let closed = c.requires.closed in
     let same = c.closing_of-closed.ensures c.args.config.pack closed.0 closed.1 closed.2 in
     let marked : IsMarked c.closing_of-closed.result.0 = subst (λ (x : Closing). IsMarked x) (sym same.0) (named_marked c.args.mark.now c.args.config.pack closed.0 closed.1 closed.2) in
-    let made : 2 * c.from.result ≤ (g.S.BlockStore.state c.room.new.self).spare = at_ok c.room.result _ (sym c.is_err.ensures.value ∙ c.if-is_err.false) c.room.ensures.spare in
+    let made : 2 * c.from.result ≤ (g.S.BlockStore.state c.reserve.new.self).spare = at_ok c.reserve.result _ (sym c.is_err.ensures.value ∙ c.if-is_err.false) c.reserve.ensures.spare in
     let keyed : c.in-Ok-keys_from-2.keys ≡ reopening_keys c.args.secret.now c.args.salt.now c.closing_of-closed.result.1 c.closing_of-closed.result.0 c.in_ok-listed.listed =
     c.in-Ok-keys_from-2.ensures ∙ ap (reopening_keys c.args.secret.now c.args.salt.now c.closing_of-closed.result.1 c.closing_of-closed.result.0) c.as_slice.ensures in
     subst (λ (l : List Listed). length l ≤ (g.S.BlockStore.state c.read_closing.new.store).spare) (sym c.as_slice-2.ensures)
-    (spare_first g.R.Revisions.state c.args.config c.args.secret.now c.args.salt.now c.closing_of-closed.result.1 c.closing_of-closed.result.0 marked (g.S.BlockStore.state c.args.store.now) (g.S.BlockStore.state c.room.new.self) c.requires.fresh (g.met.S.BlockStore.starts_honest c.args.store.now c.requires.fresh) (λ q. g.met.S.BlockStore.starts_empty c.args.store.now q c.requires.fresh) c.room.ensures.rests c.start_at-vault.result c.start_at-vault.ensures.ready (started_as c.closing_of-closed.result.0 _ _ _ c.from-3.result c.start_at-vault.ensures.started refl c.from-3.ensures (omega arith)) (c.start_at-vault.ensures.keyed ∙ c.in-Ok-keys_from.ensures) c.start_at-vault.ensures.empty c.read_closing.new.vault (g.S.BlockStore.state c.read_closing.new.store) c.in_ok-listed.listed c.in_ok-listed.ensures.reads c.rekey.new.self (λ x. c.rekey.ensures x ∙ ap (λ (k : KeySet). rekeyed k (at g.R.Revisions.state c.read_closing.new.vault x)) keyed) (subst (λ (n : ℕ). 2 * n ≤ (g.S.BlockStore.state c.room.new.self).spare) c.from.ensures made))
+    (spare_first g.R.Revisions.state c.args.config c.args.secret.now c.args.salt.now c.closing_of-closed.result.1 c.closing_of-closed.result.0 marked (g.S.BlockStore.state c.args.store.now) (g.S.BlockStore.state c.reserve.new.self) c.requires.fresh (g.met.S.BlockStore.starts_honest c.args.store.now c.requires.fresh) (λ q. g.met.S.BlockStore.starts_empty c.args.store.now q c.requires.fresh) c.reserve.ensures.rests c.start_at-vault.result c.start_at-vault.ensures.ready (started_as c.closing_of-closed.result.0 _ _ _ c.from-3.result c.start_at-vault.ensures.started refl c.from-3.ensures (omega arith)) (c.start_at-vault.ensures.keyed ∙ c.in-Ok-keys_from.ensures) c.start_at-vault.ensures.empty c.read_closing.new.vault (g.S.BlockStore.state c.read_closing.new.store) c.in_ok-listed.listed c.in_ok-listed.ensures.reads c.rekey.new.self (λ x. c.rekey.ensures x ∙ ap (λ (k : KeySet). rekeyed k (at g.R.Revisions.state c.read_closing.new.vault x)) keyed) (subst (λ (n : ℕ). 2 * n ≤ (g.S.BlockStore.state c.reserve.new.self).spare) c.from.ensures made))
 
 pub returns-in_err-reopen_tables : goal.returns-in_err-reopen_tables
 returns-in_err-reopen_tables g c =
@@ -104,7 +104,7 @@ returns-in_err-reopen_tables g c =
     let reopens = subst (λ (l : List Listed). ReopensTables {T = Unit {0}} c.closing_of-closed.result.0 l (Err c.in_err-reopen_tables.field-0.0) mid last) c.as_slice-2.ensures c.in_err-reopen_tables.ensures.reopens in
     rw (p.1, p.2) (record {
       opens = named_saved {R = g.row.R.Denot} g.R.Revisions.state c.args.config c.args.secret.now c.args.salt.now c.args.mark.now c.closing_of-closed.result.0 c.closing_of-closed.result.1 (Err c.in_err-reopen_tables.field-0.0) (g.S.BlockStore.state c.args.store.now) (g.S.BlockStore.state c.reopen_tables.new.store) c.closing_of-closed.ensures
-          (λ marked pack. saved_shut g.R.Revisions.state c.args.config c.args.secret.now c.args.salt.now c.closing_of-closed.result.1 c.closing_of-closed.result.0 marked (g.S.BlockStore.state c.args.store.now) (g.S.BlockStore.state c.room.new.self) c.requires.fresh (g.met.S.BlockStore.starts_honest c.args.store.now c.requires.fresh) (λ q. g.met.S.BlockStore.starts_empty c.args.store.now q c.requires.fresh) c.room.ensures.rests c.start_at-vault.result c.start_at-vault.ensures.ready (started_as c.closing_of-closed.result.0 _ _ _ c.from-3.result c.start_at-vault.ensures.started refl c.from-3.ensures (omega arith)) (c.start_at-vault.ensures.keyed ∙ c.in-Ok-keys_from.ensures) c.start_at-vault.ensures.empty c.read_closing.new.vault (g.S.BlockStore.state c.read_closing.new.store) c.in_ok-listed.listed c.in_ok-listed.ensures.reads c.rekey.new.self (λ x. c.rekey.ensures x ∙ ap (λ (k : KeySet). rekeyed k (at g.R.Revisions.state c.read_closing.new.vault x)) keyed) pack c.requires.config (λ q region kept. g.met.S.BlockStore.keeps_within c.args.store.now q region kept) c.in_err-reopen_tables.field-0.0 c.reopen_tables.new.vault (g.S.BlockStore.state c.reopen_tables.new.store) reopens);
+          (λ marked pack. saved_shut g.R.Revisions.state c.args.config c.args.secret.now c.args.salt.now c.closing_of-closed.result.1 c.closing_of-closed.result.0 marked (g.S.BlockStore.state c.args.store.now) (g.S.BlockStore.state c.reserve.new.self) c.requires.fresh (g.met.S.BlockStore.starts_honest c.args.store.now c.requires.fresh) (λ q. g.met.S.BlockStore.starts_empty c.args.store.now q c.requires.fresh) c.reserve.ensures.rests c.start_at-vault.result c.start_at-vault.ensures.ready (started_as c.closing_of-closed.result.0 _ _ _ c.from-3.result c.start_at-vault.ensures.started refl c.from-3.ensures (omega arith)) (c.start_at-vault.ensures.keyed ∙ c.in-Ok-keys_from.ensures) c.start_at-vault.ensures.empty c.read_closing.new.vault (g.S.BlockStore.state c.read_closing.new.store) c.in_ok-listed.listed c.in_ok-listed.ensures.reads c.rekey.new.self (λ x. c.rekey.ensures x ∙ ap (λ (k : KeySet). rekeyed k (at g.R.Revisions.state c.read_closing.new.vault x)) keyed) pack c.requires.config (λ q region kept. g.met.S.BlockStore.keeps_within c.args.store.now q region kept) c.in_err-reopen_tables.field-0.0 c.reopen_tables.new.vault (g.S.BlockStore.state c.reopen_tables.new.store) reopens);
     })
 
 pub returns-in_default-tables_of : goal.returns-in_default-tables_of
@@ -116,7 +116,7 @@ returns-in_default-tables_of g c =
     let reopens = subst (λ (l : List Listed). ReopensTables c.closing_of-closed.result.0 l (Ok c.in_ok-reopen_tables.field-0) mid last) c.as_slice-2.ensures c.in_ok-reopen_tables.ensures.reopens in
     record {
       opens = named_saved {R = g.row.R.Denot} g.R.Revisions.state c.args.config c.args.secret.now c.args.salt.now c.args.mark.now c.closing_of-closed.result.0 c.closing_of-closed.result.1 (Err NoMemory) (g.S.BlockStore.state c.args.store.now) (g.S.BlockStore.state c.reopen_tables.new.store) c.closing_of-closed.ensures
-          (λ marked pack. saved_unlisted g.R.Revisions.state c.args.config c.args.secret.now c.args.salt.now c.closing_of-closed.result.1 c.closing_of-closed.result.0 marked (g.S.BlockStore.state c.args.store.now) (g.S.BlockStore.state c.room.new.self) c.requires.fresh (g.met.S.BlockStore.starts_honest c.args.store.now c.requires.fresh) (λ q. g.met.S.BlockStore.starts_empty c.args.store.now q c.requires.fresh) c.room.ensures.rests c.start_at-vault.result c.start_at-vault.ensures.ready (started_as c.closing_of-closed.result.0 _ _ _ c.from-3.result c.start_at-vault.ensures.started refl c.from-3.ensures (omega arith)) (c.start_at-vault.ensures.keyed ∙ c.in-Ok-keys_from.ensures) c.start_at-vault.ensures.empty c.read_closing.new.vault (g.S.BlockStore.state c.read_closing.new.store) c.in_ok-listed.listed c.in_ok-listed.ensures.reads c.rekey.new.self (λ x. c.rekey.ensures x ∙ ap (λ (k : KeySet). rekeyed k (at g.R.Revisions.state c.read_closing.new.vault x)) keyed) pack c.requires.config (λ q region kept. g.met.S.BlockStore.keeps_within c.args.store.now q region kept) c.in_ok-reopen_tables.field-0 (g.S.BlockStore.state c.reopen_tables.new.store) c.reopen_tables.new.vault reopens);
+          (λ marked pack. saved_unlisted g.R.Revisions.state c.args.config c.args.secret.now c.args.salt.now c.closing_of-closed.result.1 c.closing_of-closed.result.0 marked (g.S.BlockStore.state c.args.store.now) (g.S.BlockStore.state c.reserve.new.self) c.requires.fresh (g.met.S.BlockStore.starts_honest c.args.store.now c.requires.fresh) (λ q. g.met.S.BlockStore.starts_empty c.args.store.now q c.requires.fresh) c.reserve.ensures.rests c.start_at-vault.result c.start_at-vault.ensures.ready (started_as c.closing_of-closed.result.0 _ _ _ c.from-3.result c.start_at-vault.ensures.started refl c.from-3.ensures (omega arith)) (c.start_at-vault.ensures.keyed ∙ c.in-Ok-keys_from.ensures) c.start_at-vault.ensures.empty c.read_closing.new.vault (g.S.BlockStore.state c.read_closing.new.store) c.in_ok-listed.listed c.in_ok-listed.ensures.reads c.rekey.new.self (λ x. c.rekey.ensures x ∙ ap (λ (k : KeySet). rekeyed k (at g.R.Revisions.state c.read_closing.new.vault x)) keyed) pack c.requires.config (λ q region kept. g.met.S.BlockStore.keeps_within c.args.store.now q region kept) c.in_ok-reopen_tables.field-0 (g.S.BlockStore.state c.reopen_tables.new.store) c.reopen_tables.new.vault reopens);
     }
 
 pub returns : goal.returns
@@ -145,7 +145,7 @@ returns g c =
     c.new-draws.ensures ∙ (λ i. record { key = key_of (c.draw_seed.ensures i); next = 0 }) ∙ ap (λ (k : KeySet). let place : DrawPlace = record { key = key_of (draw_seed_of k); next = 0 } in place) keyed in
     record {
       opens = named_saved {R = g.row.R.Denot} g.R.Revisions.state c.args.config c.args.secret.now c.args.salt.now c.args.mark.now c.closing_of-closed.result.0 c.closing_of-closed.result.1 (Ok e) (g.S.BlockStore.state c.args.store.now) (g.S.BlockStore.state c.reopen_tables.new.store) c.closing_of-closed.ensures
-          (λ marked pack. saved_open g.R.Revisions.state c.args.config c.args.secret.now c.args.salt.now c.closing_of-closed.result.1 c.closing_of-closed.result.0 marked (g.S.BlockStore.state c.args.store.now) (g.S.BlockStore.state c.room.new.self) c.requires.fresh (g.met.S.BlockStore.starts_honest c.args.store.now c.requires.fresh) (λ q. g.met.S.BlockStore.starts_empty c.args.store.now q c.requires.fresh) c.room.ensures.rests c.start_at-vault.result c.start_at-vault.ensures.ready (started_as c.closing_of-closed.result.0 _ _ _ c.from-3.result c.start_at-vault.ensures.started refl c.from-3.ensures (omega arith)) (c.start_at-vault.ensures.keyed ∙ c.in-Ok-keys_from.ensures) c.start_at-vault.ensures.empty c.read_closing.new.vault (g.S.BlockStore.state c.read_closing.new.store) c.in_ok-listed.listed c.in_ok-listed.ensures.reads c.rekey.new.self (λ x. c.rekey.ensures x ∙ ap (λ (k : KeySet). rekeyed k (at g.R.Revisions.state c.read_closing.new.vault x)) keyed) pack c.requires.config (λ q region kept. g.met.S.BlockStore.keeps_within c.args.store.now q region kept) c.in_ok-reopen_tables.field-0 (g.S.BlockStore.state c.reopen_tables.new.store) e reopens public refl c.new-2.ensures.items drawn refl
+          (λ marked pack. saved_open g.R.Revisions.state c.args.config c.args.secret.now c.args.salt.now c.closing_of-closed.result.1 c.closing_of-closed.result.0 marked (g.S.BlockStore.state c.args.store.now) (g.S.BlockStore.state c.reserve.new.self) c.requires.fresh (g.met.S.BlockStore.starts_honest c.args.store.now c.requires.fresh) (λ q. g.met.S.BlockStore.starts_empty c.args.store.now q c.requires.fresh) c.reserve.ensures.rests c.start_at-vault.result c.start_at-vault.ensures.ready (started_as c.closing_of-closed.result.0 _ _ _ c.from-3.result c.start_at-vault.ensures.started refl c.from-3.ensures (omega arith)) (c.start_at-vault.ensures.keyed ∙ c.in-Ok-keys_from.ensures) c.start_at-vault.ensures.empty c.read_closing.new.vault (g.S.BlockStore.state c.read_closing.new.store) c.in_ok-listed.listed c.in_ok-listed.ensures.reads c.rekey.new.self (λ x. c.rekey.ensures x ∙ ap (λ (k : KeySet). rekeyed k (at g.R.Revisions.state c.read_closing.new.vault x)) keyed) pack c.requires.config (λ q region kept. g.met.S.BlockStore.keeps_within c.args.store.now q region kept) c.in_ok-reopen_tables.field-0 (g.S.BlockStore.state c.reopen_tables.new.store) e reopens public refl c.new-2.ensures.items drawn refl
           (room_read c.args.config e.public c.in-Ok.room c.read_closing.new.room c.requires.config new c.read_closing.ensures.room (ap (λ (p : Public). p.buffer) public) (ap (λ (p : Public). p.pack) public))
           (high_read c.args.config c.in-Ok.room c.read_closing.new.room new c.read_closing.ensures.room) (rows_read c.args.config c.in-Ok.room c.read_closing.new.room new c.read_closing.ensures.room) refl);
     }

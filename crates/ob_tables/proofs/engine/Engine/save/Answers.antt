@@ -21,7 +21,7 @@ returns-then-is_err g c =
     let old = c.args.self.now in
     let s = g.S.BlockStore.state c.args.store.now in
     record {
-      saves = saves_none g.R.Revisions.state old s (g.S.BlockStore.state c.room.new.self) c.requires.agrees c.requires.flat (sym (used_is g.R.Revisions.state old s c.requires.agrees c.requires.flat) ∙ sym c.is_used_up.ensures ∙ c.if-is_used_up.false) c.room.ensures.rests;
+      saves = saves_none g.R.Revisions.state old s (g.S.BlockStore.state c.reserve.new.self) c.requires.agrees c.requires.flat (sym (used_is g.R.Revisions.state old s c.requires.agrees c.requires.flat) ∙ sym c.is_used_up.ensures ∙ c.if-is_used_up.false) c.reserve.ensures.rests;
     }
 
 pub list_tables-requires : goal.list_tables-requires
@@ -35,7 +35,7 @@ returns-in_default g c =
     let old = c.args.self.now in
     let s = g.S.BlockStore.state c.args.store.now in
     record {
-      saves = saves_none g.R.Revisions.state old s (g.S.BlockStore.state c.room.new.self) c.requires.agrees c.requires.flat (sym (used_is g.R.Revisions.state old s c.requires.agrees c.requires.flat) ∙ sym c.is_used_up.ensures ∙ c.if-is_used_up.false) c.room.ensures.rests;
+      saves = saves_none g.R.Revisions.state old s (g.S.BlockStore.state c.reserve.new.self) c.requires.agrees c.requires.flat (sym (used_is g.R.Revisions.state old s c.requires.agrees c.requires.flat) ∙ sym c.is_used_up.ensures ∙ c.if-is_used_up.false) c.reserve.ensures.rests;
     }
 
 pub write_closing-requires-clause-asks : goal.write_closing-requires-clause-asks
@@ -44,10 +44,10 @@ write_closing-requires-clause-asks g c =
     let s = g.S.BlockStore.state c.args.store.now in
     let listed = c.as_slice.ensures ∙ c.in-Ok.ensures.listed ∙ ap (catalogue_of old.vault.keys (g.R.Revisions.state old.vault.revs)) c.as_slice-tables.ensures in
     let salts = subst (AreSalted old.vault.keys) c.as_slice-tables.ensures c.in-Ok.ensures.salts in
-    let spare : 4 + length old.public.tables ≤ (g.S.BlockStore.state c.room.new.self).spare = subst (λ (ts : List Table). 4 + length ts ≤ (g.S.BlockStore.state c.room.new.self).spare) c.as_slice-tables.ensures
-    (at_ok c.room.result _ (sym c.is_err.ensures.value ∙ c.if-is_err.false) c.room.ensures.spare) in
-    subst (λ (l : List Listed). MayAsk (2 + length l) (at g.R.Revisions.state old.vault (g.S.BlockStore.state c.room.new.self))) (sym listed)
-    (may_save g.R.Revisions.state old s (g.S.BlockStore.state c.room.new.self) c.requires.agrees c.requires.flat (sym (used_is g.R.Revisions.state old s c.requires.agrees c.requires.flat) ∙ sym c.is_used_up.ensures ∙ c.if-is_used_up.false) c.room.ensures.rests salts c.requires.few spare)
+    let spare : 4 + length old.public.tables ≤ (g.S.BlockStore.state c.reserve.new.self).spare = subst (λ (ts : List Table). 4 + length ts ≤ (g.S.BlockStore.state c.reserve.new.self).spare) c.as_slice-tables.ensures
+    (at_ok c.reserve.result _ (sym c.is_err.ensures.value ∙ c.if-is_err.false) c.reserve.ensures.spare) in
+    subst (λ (l : List Listed). MayAsk (2 + length l) (at g.R.Revisions.state old.vault (g.S.BlockStore.state c.reserve.new.self))) (sym listed)
+    (may_save g.R.Revisions.state old s (g.S.BlockStore.state c.reserve.new.self) c.requires.agrees c.requires.flat (sym (used_is g.R.Revisions.state old s c.requires.agrees c.requires.flat) ∙ sym c.is_used_up.ensures ∙ c.if-is_used_up.false) c.reserve.ensures.rests salts c.requires.few spare)
 
 pub write_closing-requires-clause-few : goal.write_closing-requires-clause-few
 write_closing-requires-clause-few g c =
@@ -56,7 +56,7 @@ write_closing-requires-clause-few g c =
     let listed = c.as_slice.ensures ∙ c.in-Ok.ensures.listed ∙ ap (catalogue_of old.vault.keys (g.R.Revisions.state old.vault.revs)) c.as_slice-tables.ensures in
     let salts = subst (AreSalted old.vault.keys) c.as_slice-tables.ensures c.in-Ok.ensures.salts in
     subst (λ (l : List Listed). length l ≤ 64) (sym listed)
-    (few_rows g.R.Revisions.state old s (g.S.BlockStore.state c.room.new.self) c.requires.agrees c.requires.flat (sym (used_is g.R.Revisions.state old s c.requires.agrees c.requires.flat) ∙ sym c.is_used_up.ensures ∙ c.if-is_used_up.false) c.room.ensures.rests salts)
+    (few_rows g.R.Revisions.state old s (g.S.BlockStore.state c.reserve.new.self) c.requires.agrees c.requires.flat (sym (used_is g.R.Revisions.state old s c.requires.agrees c.requires.flat) ∙ sym c.is_used_up.ensures ∙ c.if-is_used_up.false) c.reserve.ensures.rests salts)
 
 pub write_closing-requires-clause-columns : goal.write_closing-requires-clause-columns
 write_closing-requires-clause-columns g c =
@@ -65,7 +65,7 @@ write_closing-requires-clause-columns g c =
     let listed = c.as_slice.ensures ∙ c.in-Ok.ensures.listed ∙ ap (catalogue_of old.vault.keys (g.R.Revisions.state old.vault.revs)) c.as_slice-tables.ensures in
     let salts = subst (AreSalted old.vault.keys) c.as_slice-tables.ensures c.in-Ok.ensures.salts in
     subst (λ (l : List Listed). All (λ (t : Listed). length t.table.heading.schema ≤ 16) l) (sym listed)
-    (few_cells g.R.Revisions.state old s (g.S.BlockStore.state c.room.new.self) c.requires.agrees c.requires.flat (sym (used_is g.R.Revisions.state old s c.requires.agrees c.requires.flat) ∙ sym c.is_used_up.ensures ∙ c.if-is_used_up.false) c.room.ensures.rests salts)
+    (few_cells g.R.Revisions.state old s (g.S.BlockStore.state c.reserve.new.self) c.requires.agrees c.requires.flat (sym (used_is g.R.Revisions.state old s c.requires.agrees c.requires.flat) ∙ sym c.is_used_up.ensures ∙ c.if-is_used_up.false) c.reserve.ensures.rests salts)
 
 pub unreachable-requires : goal.unreachable-requires
 unreachable-requires g c =
@@ -73,13 +73,13 @@ unreachable-requires g c =
     let s = g.S.BlockStore.state c.args.store.now in
     let listed = c.as_slice.ensures ∙ c.in-Ok.ensures.listed ∙ ap (catalogue_of old.vault.keys (g.R.Revisions.state old.vault.revs)) c.as_slice-tables.ensures in
     let salts = subst (AreSalted old.vault.keys) c.as_slice-tables.ensures c.in-Ok.ensures.salts in
-    let spare : 4 + length old.public.tables ≤ (g.S.BlockStore.state c.room.new.self).spare = subst (λ (ts : List Table). 4 + length ts ≤ (g.S.BlockStore.state c.room.new.self).spare) c.as_slice-tables.ensures
-    (at_ok c.room.result _ (sym c.is_err.ensures.value ∙ c.if-is_err.false) c.room.ensures.spare) in
-    let fore = at g.R.Revisions.state old.vault (g.S.BlockStore.state c.room.new.self) in
+    let spare : 4 + length old.public.tables ≤ (g.S.BlockStore.state c.reserve.new.self).spare = subst (λ (ts : List Table). 4 + length ts ≤ (g.S.BlockStore.state c.reserve.new.self).spare) c.as_slice-tables.ensures
+    (at_ok c.reserve.result _ (sym c.is_err.ensures.value ∙ c.if-is_err.false) c.reserve.ensures.spare) in
+    let fore = at g.R.Revisions.state old.vault (g.S.BlockStore.state c.reserve.new.self) in
     let last = at g.R.Revisions.state c.write_closing.new.vault (g.S.BlockStore.state c.write_closing.new.store) in
     let made = c.in-Ok-write_closing.written in
     let writes = subst (λ (l : List Listed). WritesClosing old.room.pack l (Ok made) fore last) listed c.in-Ok-write_closing.ensures.writes in
-    let same = written_salt g.R.Revisions.state old s (g.S.BlockStore.state c.room.new.self) c.requires.agrees c.requires.flat (sym (used_is g.R.Revisions.state old s c.requires.agrees c.requires.flat) ∙ sym c.is_used_up.ensures ∙ c.if-is_used_up.false) c.room.ensures.rests salts c.requires.few spare
+    let same = written_salt g.R.Revisions.state old s (g.S.BlockStore.state c.reserve.new.self) c.requires.agrees c.requires.flat (sym (used_is g.R.Revisions.state old s c.requires.agrees c.requires.flat) ∙ sym c.is_used_up.ensures ∙ c.if-is_used_up.false) c.reserve.ensures.rests salts c.requires.few spare
     c.write_closing.new.vault c.write_closing.new.room c.write_closing.ensures.room (g.S.BlockStore.state c.write_closing.new.store) made writes in
     absurd (c.requires.salted (sym same ∙ sym c.in_default-salt_of.ensures.value))
 
@@ -89,9 +89,9 @@ returns-in-Ok-write_closing g c =
     let s = g.S.BlockStore.state c.args.store.now in
     let listed = c.as_slice.ensures ∙ c.in-Ok.ensures.listed ∙ ap (catalogue_of old.vault.keys (g.R.Revisions.state old.vault.revs)) c.as_slice-tables.ensures in
     let salts = subst (AreSalted old.vault.keys) c.as_slice-tables.ensures c.in-Ok.ensures.salts in
-    let spare : 4 + length old.public.tables ≤ (g.S.BlockStore.state c.room.new.self).spare = subst (λ (ts : List Table). 4 + length ts ≤ (g.S.BlockStore.state c.room.new.self).spare) c.as_slice-tables.ensures
-    (at_ok c.room.result _ (sym c.is_err.ensures.value ∙ c.if-is_err.false) c.room.ensures.spare) in
-    let fore = at g.R.Revisions.state old.vault (g.S.BlockStore.state c.room.new.self) in
+    let spare : 4 + length old.public.tables ≤ (g.S.BlockStore.state c.reserve.new.self).spare = subst (λ (ts : List Table). 4 + length ts ≤ (g.S.BlockStore.state c.reserve.new.self).spare) c.as_slice-tables.ensures
+    (at_ok c.reserve.result _ (sym c.is_err.ensures.value ∙ c.if-is_err.false) c.reserve.ensures.spare) in
+    let fore = at g.R.Revisions.state old.vault (g.S.BlockStore.state c.reserve.new.self) in
     let last = at g.R.Revisions.state c.write_closing.new.vault (g.S.BlockStore.state c.write_closing.new.store) in
     let made = c.in-Ok-write_closing.written in
     let writes = subst (λ (l : List Listed). WritesClosing old.room.pack l (Ok made) fore last) listed c.in-Ok-write_closing.ensures.writes in
@@ -99,7 +99,7 @@ returns-in-Ok-write_closing g c =
     record {
       saves =
           subst (λ (e : Engine g.row.R.Denot). SavesEngine g.R.Revisions.state (Ok c.mark_of.result) old s e t) (sym (ap (λ (e : Engine g.row.R.Denot). record e { ended = false }) c.list_in.ensures.listed))
-          (saves_all g.R.Revisions.state old s (g.S.BlockStore.state c.room.new.self) c.requires.agrees c.requires.flat (sym (used_is g.R.Revisions.state old s c.requires.agrees c.requires.flat) ∙ sym c.is_used_up.ensures ∙ c.if-is_used_up.false) c.room.ensures.rests salts c.requires.few spare
+          (saves_all g.R.Revisions.state old s (g.S.BlockStore.state c.reserve.new.self) c.requires.agrees c.requires.flat (sym (used_is g.R.Revisions.state old s c.requires.agrees c.requires.flat) ∙ sym c.is_used_up.ensures ∙ c.if-is_used_up.false) c.reserve.ensures.rests salts c.requires.few spare
           c.write_closing.new.vault c.write_closing.new.room c.write_closing.ensures.room t made writes
           (λ q shape tells live. g.met.S.BlockStore.keeps_live c.write_closing.new.store q shape tells live)
           c.list_in.new.self.vault c.list_in.ensures.forgets c.list_in.ensures.stays
@@ -112,13 +112,13 @@ returns g c =
     let s = g.S.BlockStore.state c.args.store.now in
     let listed = c.as_slice.ensures ∙ c.in-Ok.ensures.listed ∙ ap (catalogue_of old.vault.keys (g.R.Revisions.state old.vault.revs)) c.as_slice-tables.ensures in
     let salts = subst (AreSalted old.vault.keys) c.as_slice-tables.ensures c.in-Ok.ensures.salts in
-    let spare : 4 + length old.public.tables ≤ (g.S.BlockStore.state c.room.new.self).spare = subst (λ (ts : List Table). 4 + length ts ≤ (g.S.BlockStore.state c.room.new.self).spare) c.as_slice-tables.ensures
-    (at_ok c.room.result _ (sym c.is_err.ensures.value ∙ c.if-is_err.false) c.room.ensures.spare) in
-    let fore = at g.R.Revisions.state old.vault (g.S.BlockStore.state c.room.new.self) in
+    let spare : 4 + length old.public.tables ≤ (g.S.BlockStore.state c.reserve.new.self).spare = subst (λ (ts : List Table). 4 + length ts ≤ (g.S.BlockStore.state c.reserve.new.self).spare) c.as_slice-tables.ensures
+    (at_ok c.reserve.result _ (sym c.is_err.ensures.value ∙ c.if-is_err.false) c.reserve.ensures.spare) in
+    let fore = at g.R.Revisions.state old.vault (g.S.BlockStore.state c.reserve.new.self) in
     let last = at g.R.Revisions.state c.write_closing.new.vault (g.S.BlockStore.state c.write_closing.new.store) in
     record {
       saves =
-          saves_cut g.R.Revisions.state old s (g.S.BlockStore.state c.room.new.self) c.requires.agrees c.requires.flat (sym (used_is g.R.Revisions.state old s c.requires.agrees c.requires.flat) ∙ sym c.is_used_up.ensures ∙ c.if-is_used_up.false) c.room.ensures.rests salts c.requires.few spare
+          saves_cut g.R.Revisions.state old s (g.S.BlockStore.state c.reserve.new.self) c.requires.agrees c.requires.flat (sym (used_is g.R.Revisions.state old s c.requires.agrees c.requires.flat) ∙ sym c.is_used_up.ensures ∙ c.if-is_used_up.false) c.reserve.ensures.rests salts c.requires.few spare
           c.write_closing.new.vault c.write_closing.new.room c.write_closing.ensures.room (g.S.BlockStore.state c.write_closing.new.store) c.in-Err.e
           (subst (λ (l : List Listed). WritesClosing old.room.pack l (Err c.in-Err.e) fore last) listed c.in-Err.ensures.writes);
     }

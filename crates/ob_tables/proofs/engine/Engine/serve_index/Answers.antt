@@ -24,11 +24,11 @@ pub returns-then-is_err : goal.returns-then-is_err
 returns-then-is_err g c =
     let old = c.args.self.now in
     let s = g.S.BlockStore.state c.args.store.now in
-    let s1 = g.S.BlockStore.state c.room.new.self in
+    let s1 = g.S.BlockStore.state c.reserve.new.self in
     record {
       serves =
           serves_same g.R.Revisions.state g.E.Emit.grew g.E.Emit.cut g.E.Emit.faults c.args.stmt.now old s s1 c.args.out.now c.args.out.now _ _ _ _ c.cut.ensures.answer c.cut.ensures.seen
-          (serves_unasked g.R.Revisions.state c.args.stmt.now old s c.args.k c.requires.agrees c.requires.allowed c.requires.index s1 c.room.ensures.rests old.indexes old.draws
+          (serves_unasked g.R.Revisions.state c.args.stmt.now old s c.args.k c.requires.agrees c.requires.allowed c.requires.index s1 c.reserve.ensures.rests old.indexes old.draws
           g.E.Emit.grew g.E.Emit.cut g.E.Emit.faults c.args.out.now (g.met.E.Emit.starts c.args.out.now));
     }
 
@@ -38,19 +38,19 @@ access_at-requires g c =
     let stmt = c.args.stmt.now in
     let old = c.args.self.now in
     let s = g.S.BlockStore.state c.args.store.now in
-    let s1 = g.S.BlockStore.state c.room.new.self in
+    let s1 = g.S.BlockStore.state c.reserve.new.self in
     let found = c.requires.index.is in
     let read = slice_get_read old.indexes.items _ c.args.k _ refl (slice_get_within old.indexes.items c.args.k found.index found.get) c.index.ensures in
     let got = found.get in
     let same : c.index.result.now ≡ found.index = cc (read, got) in
-    let room = at_ok c.room.result _ (sym c.is_err.ensures.value ∙ c.if-is_err.false) c.room.ensures.spare in
+    let room = at_ok c.reserve.result _ (sym c.is_err.ensures.value ∙ c.if-is_err.false) c.reserve.ensures.spare in
     let spare = subst (λ (n : ℕ). n ≤ s1.spare) (c.accesses.ensures ∙ ap script_length same) room in
     record {
       at = (
         found.index,
         subst (λ (xs : List Index). slice_get xs c.args.k ≡ Some found.index) (sym c.as_mut_slice.ensures.value) found.get,
-        starts_access state stmt old s c.args.k c.requires.agrees c.requires.allowed c.requires.index s1 c.room.ensures.rests spare,
-        stands_now state stmt old s c.args.k c.requires.agrees c.requires.allowed c.requires.index s1 c.room.ensures.rests,
+        starts_access state stmt old s c.args.k c.requires.agrees c.requires.allowed c.requires.index s1 c.reserve.ensures.rests spare,
+        stands_now state stmt old s c.args.k c.requires.agrees c.requires.allowed c.requires.index s1 c.reserve.ensures.rests,
         (old.public, count_of old s, keyed_on state stmt old s c.args.k c.requires.agrees c.requires.allowed c.requires.index),
         idle_width state stmt old s c.args.k c.requires.agrees c.requires.allowed c.requires.index,
         rows_fit state stmt old s c.args.k c.requires.agrees c.requires.allowed c.requires.index,
@@ -61,13 +61,13 @@ pub returns-in_default : goal.returns-in_default
 returns-in_default g c =
     let old = c.args.self.now in
     let s = g.S.BlockStore.state c.args.store.now in
-    let s1 = g.S.BlockStore.state c.room.new.self in
+    let s1 = g.S.BlockStore.state c.reserve.new.self in
     let t = g.S.BlockStore.state c.access_at.new.store in
     let same = c.in_default.ensures.memory in
     record {
       serves =
           serves_same g.R.Revisions.state g.E.Emit.grew g.E.Emit.cut g.E.Emit.faults c.args.stmt.now old s t c.args.out.now c.args.out.now _ _ _ _ c.cut-in_default.ensures.answer c.cut-in_default.ensures.seen
-          (serves_unasked_at g.R.Revisions.state c.args.stmt.now old s c.args.k c.requires.agrees c.requires.allowed c.requires.index s1 c.room.ensures.rests _ c.next-draw.new.self
+          (serves_unasked_at g.R.Revisions.state c.args.stmt.now old s c.args.k c.requires.agrees c.requires.allowed c.requires.index s1 c.reserve.ensures.rests _ c.next-draw.new.self
           g.E.Emit.grew g.E.Emit.cut g.E.Emit.faults c.args.out.now (g.met.E.Emit.starts c.args.out.now) c.access_at.new.vault c.access_at.new.room t same.2 same.1 (ap g.S.BlockStore.state same.3));
     }
 
@@ -83,7 +83,7 @@ emit_got-requires g c =
     let stmt = c.args.stmt.now in
     let old = c.args.self.now in
     let s = g.S.BlockStore.state c.args.store.now in
-    let before = at state old.vault (g.S.BlockStore.state c.room.new.self) in
+    let before = at state old.vault (g.S.BlockStore.state c.reserve.new.self) in
     let after = at state c.access_at.new.vault (g.S.BlockStore.state c.access_at.new.store) in
     let left = c.access_at.new.indexes in
     let done = subst (λ (xs : List Index). IsDone stmt c.args.k c.next-draw.result c.in-Ok.keyed xs left old.room c.access_at.new.room before after) c.as_mut_slice.ensures.value c.in-Ok.ensures.done in
@@ -100,7 +100,7 @@ returns-in-Ok-emit_got g c =
     let stmt = c.args.stmt.now in
     let old = c.args.self.now in
     let s = g.S.BlockStore.state c.args.store.now in
-    let s1 = g.S.BlockStore.state c.room.new.self in
+    let s1 = g.S.BlockStore.state c.reserve.new.self in
     let t = g.S.BlockStore.state c.access_at.new.store in
     let v = c.access_at.new.vault in
     let room = c.access_at.new.room in
@@ -120,7 +120,7 @@ returns-in-Ok-emit_got g c =
     record {
       serves =
           serves_same state g.E.Emit.grew g.E.Emit.cut g.E.Emit.faults stmt old s t c.args.out.now c.emit_got.new.out _ _ _ _ refl c.finish_seen.ensures.seen
-          (arm_whole state stmt old s s1 v room t c.args.k draw keyed _ c.next-draw.new.self c.requires.agrees c.room.ensures.rests c.requires.allowed c.requires.index back
+          (arm_whole state stmt old s s1 v room t c.args.k draw keyed _ c.next-draw.new.self c.requires.agrees c.reserve.ensures.rests c.requires.allowed c.requires.index back
           c.next-draw.ensures.value c.next-draw.ensures.next g.E.Emit.grew g.E.Emit.cut g.E.Emit.faults g.met.E.Emit.starts c.args.out.now c.emit_got.new.out
           c.in-Ok-result.got c.in-Ok-result.is c.requires.lives _ columns c.in-Ok-emit_got.ensures c.seen_whole.result c.seen_whole.ensures c.finish_seen.result (c.finish_seen.ensures.answer ∙ c.outcome_of_got-outcome.ensures));
     }
@@ -131,7 +131,7 @@ returns-in-Err-emit_got g c =
     let stmt = c.args.stmt.now in
     let old = c.args.self.now in
     let s = g.S.BlockStore.state c.args.store.now in
-    let s1 = g.S.BlockStore.state c.room.new.self in
+    let s1 = g.S.BlockStore.state c.reserve.new.self in
     let t = g.S.BlockStore.state c.access_at.new.store in
     let v = c.access_at.new.vault in
     let room = c.access_at.new.room in
@@ -153,7 +153,7 @@ returns-in-Err-emit_got g c =
     record {
       serves =
           serves_same state g.E.Emit.grew g.E.Emit.cut g.E.Emit.faults stmt old s t c.args.out.now c.emit_got.new.out _ _ _ _ c.cut_seen.ensures.answer c.cut_seen.ensures.seen
-          (arm_halted state stmt old s s1 v room t c.args.k draw keyed _ c.next-draw.new.self c.requires.agrees c.room.ensures.rests c.requires.allowed c.requires.index back
+          (arm_halted state stmt old s s1 v room t c.args.k draw keyed _ c.next-draw.new.self c.requires.agrees c.reserve.ensures.rests c.requires.allowed c.requires.index back
           c.next-draw.ensures.value c.next-draw.ensures.next g.E.Emit.grew g.E.Emit.cut g.E.Emit.faults g.met.E.Emit.starts c.args.out.now c.emit_got.new.out
           c.in-Ok-result.got c.in-Ok-result.is n (λ i. c.count.ensures i - c.count-before.ensures i) _ columns c.in-Err-emit_got.error c.in-Err-emit_got.ensures _ (ap (λ (x : Seen). record x { end = Cut n }) seen) c.error_of.result c.error_of.ensures);
     }
@@ -164,7 +164,7 @@ returns-in-Err g c =
     let stmt = c.args.stmt.now in
     let old = c.args.self.now in
     let s = g.S.BlockStore.state c.args.store.now in
-    let s1 = g.S.BlockStore.state c.room.new.self in
+    let s1 = g.S.BlockStore.state c.reserve.new.self in
     let t = g.S.BlockStore.state c.access_at.new.store in
     let v = c.access_at.new.vault in
     let room = c.access_at.new.room in
@@ -180,7 +180,7 @@ returns-in-Err g c =
     record {
       serves =
           serves_same state g.E.Emit.grew g.E.Emit.cut g.E.Emit.faults stmt old s t c.args.out.now c.args.out.now _ _ _ _ refl c.stop_access.ensures.seen
-          (arm_stopped state stmt old s s1 v room t c.args.k draw keyed _ c.next-draw.new.self c.requires.agrees c.room.ensures.rests c.requires.allowed c.requires.index back
+          (arm_stopped state stmt old s s1 v room t c.args.k draw keyed _ c.next-draw.new.self c.requires.agrees c.reserve.ensures.rests c.requires.allowed c.requires.index back
           c.next-draw.ensures.value c.next-draw.ensures.next g.E.Emit.grew g.E.Emit.cut g.E.Emit.faults g.met.E.Emit.starts c.args.out.now c.args.out.now
           c.in-Err.error c.in-Err.is n (λ i. c.count.ensures i - c.count-before.ensures i) c.seen_cut-cut.result (c.seen_cut-cut.ensures ∙ ap (λ (m : ℕ). seen_cut m keyed.leaf n) c.from.ensures) c.stop_access.result c.stop_access.ensures.answer);
     }

@@ -1,4 +1,0 @@
-use Rattle.ob_exec.proofs.behind.UnsavedBehind.save.Goals as goal
-
-pub returns-clause-saves : goal.returns-clause-saves
-returns-clause-saves g c = λ save. absurd (c.requires.saves save)

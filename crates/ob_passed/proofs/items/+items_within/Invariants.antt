@@ -1,5 +1,0 @@
-use Rattle.std.proofs.Common.{length}
-use Rattle.ob_passed.proofs.items.+items_within.Given as goal
-
-abbrev pub decreases-items_within : goal.decreases-items_within
-decreases-items_within l = length l.items.now

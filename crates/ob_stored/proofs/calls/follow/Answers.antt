@@ -1,5 +1,0 @@
-use Rattle.ob_stored.proofs.Highest.{discard_below}
-use Rattle.ob_stored.proofs.calls.follow.Goals as goal
-
-pub make-requires-clause-next : goal.make-requires-clause-next
-make-requires-clause-next g c = discard_below _ _ _ _ _ c.room.ensures.rests.asked c.in_ok-discard.ensures.asks.asked c.requires.next
