@@ -228,4 +228,5 @@ module _ {R : Type 0} (state : R → RevState) (stmt : Stmt) (owed : List Stmt) 
     means = share.means;
     keeper = inl (refl, unsaved);
     counts = counts_plain result (world_of state old s) (world_of state new t) keeper share.ran.cause;
+    drawn = refl;
   }

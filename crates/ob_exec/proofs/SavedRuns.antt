@@ -298,6 +298,7 @@ module _ {R : Type 0} (state : R → RevState) (stmt : Stmt) (owed : List Stmt) 
         kept = tt;
       });
       counts = done.counted;
+      drawn = done.drawn;
     }
 
   -- ---- they were not: the session has ended
@@ -531,4 +532,5 @@ module _ {R : Type 0} (state : R → RevState) (stmt : Stmt) (owed : List Stmt) 
         kept = halts.kept;
       });
       counts = counted stop halts.cause;
+      drawn = halts.drawn;
     }

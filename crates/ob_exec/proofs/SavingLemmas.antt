@@ -138,6 +138,7 @@ module _ {R : Type 0} (state : R → RevState) (left : Option ℕ) (e : Engine R
       began = (why (is_used_up (next_closing e s)) refl).0;
       goes_on = tt;
       counted = tt;
+      drawn = refl;
       cause = (why (is_used_up (next_closing e s)) refl).1;
       keys = saves.keys;
       start = saves.start;
@@ -187,6 +188,7 @@ module _ {R : Type 0} (state : R → RevState) (left : Option ℕ) (e : Engine R
       began = began_then;
       goes_on = tt;
       counted = tt;
+      drawn = refl;
       cause = (inl (subst (λ (n : ℕ). Rises n t.faults) ok.did.faults cause), refl);
       keys = saves.keys;
       start = saves.start;
@@ -229,6 +231,7 @@ module _ {R : Type 0} (state : R → RevState) (left : Option ℕ) (e : Engine R
         began = began_then;
         goes_on = tt;
         counted = tt;
+        drawn = sets.drawn;
         cause = (record { asked = asked_then; faults = faults_then }, sets.cause);
         keys = saves.keys;
         start = saves.start;
@@ -295,6 +298,7 @@ module _ {R : Type 0} (state : R → RevState) (left : Option ℕ) (e : Engine R
             told = λ tells tables held. settles.told tables (represents_synced state e1 s1 t ok.agrees rests_then tables (saves.told tells tables held).1);
           };
           counted = sets.cause;
+          drawn = sets.drawn;
           cause = tt;
           keys = ap (λ (y : Engine R). engine_keys y) settles.is ∙ saves.keys;
           start = ap (λ (y : Engine R). engine_start y) settles.is ∙ saves.start;

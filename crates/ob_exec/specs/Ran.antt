@@ -222,6 +222,7 @@ pub record CarriedOut {R : Type 0} (state : R → RevState) (stmt : Stmt) (owed 
   -- what becomes of the tables after it
   pub keeper : KeeperBehind state stmt owed result old s new t keeper_old keeper_new
   pub counts : CountsKeeper result keeper_old keeper_new
+  pub drawn : keeper_new.drawn ≡ keeper_old.drawn
 
 -- and what it emitted
 pub record Ran {R E : Type 0} (state : R → RevState) (grew cut : E → E → List Event → Type 0)

@@ -115,6 +115,7 @@ pub record SavesTables {T R : Type 0} (state : R → RevState) (left : Option �
   pub began : OnErr result (Began (save_script e s) s t)
   pub goes_on : OnOk result (GoesOnSaved state e s saved t)
   pub counted : OnOk result (new.faults ≡ old.faults)
+  pub drawn : new.drawn ≡ old.drawn
   pub cause : IfErr result (λ stop. SavingCause stop e s t old new)
   pub keys : engine_keys saved ≡ engine_keys e
   pub start : engine_start saved ≡ engine_start e

@@ -47,7 +47,7 @@ pub trait Commit<S: BlockStore> {
 pub struct NoCommit;
 
 impl<S: BlockStore> Commit<S> for NoCommit {
-    ghost state = { λ commit. record { held = None; faults = 0 } };
+    ghost state = { λ commit. record { held = None; faults = 0; drawn = None } };
 
     ghost Saves = { λ commit. ⊥ };
 

@@ -1,5 +1,5 @@
 //! The mark of a store, in a file.
-ghost use Rattle.std.specs.Prelude.{◌≡◌, [], Err, IfOk, MatchResult, Ok, OnOk, length, vec_items};
+ghost use Rattle.std.specs.Prelude.{◌≡◌, [], Err, IfOk, MatchResult, None, Ok, OnOk, length, vec_items};
 ghost use Rattle.ob_reopen.specs.Keepers.{AreSaltBytes, GivesMark, IsMark, SetsMark};
 ghost use Rattle.ob_reopen.specs.declared.mark.Mark.{Mark as HeldMark};
 ghost use Rattle.ob_mark.specs.Marks.{held_text};
@@ -55,12 +55,19 @@ pub struct FileKeeper<'a, R: Files> {
     trouble: Option<(Part, Error)>,
     // the mark that was told last
     told: Option<Mark>,
+    // the salt that was drawn last
+    drawn: Option<[u8; 16]>,
 }
 
 impl<'a, R: Files> Model for FileKeeper<'a, R> {
     ghost Value = { FileKept };
 
-    ghost view = { λ k. record { id = k.id; left = vec_items k.left; faults = k.faults } };
+    ghost view = { λ k. record {
+      id = k.id;
+      left = vec_items k.left;
+      faults = k.faults;
+      drawn = k.drawn;
+    } };
 }
 
 // A salt of these bytes.
@@ -173,7 +180,8 @@ impl<'a, R: Files> FileKeeper<'a, R> {
         path: String,
         id: Option<[u8; 16]>,
     ) -> Result<FileKeeper<'a, R>, NoMemory>
-        ensures { IfOk result (λ k. k ≡ record { id = id; left = []; faults = 0 }) }
+        ensures { IfOk result (λ k.
+            k ≡ record { id = id; left = []; faults = 0; drawn = None }) }
     {
         let regions = RegionFiles::new(alloc, files, name)?;
         let Ok(folder) = String::from_str(alloc, split_path(path.as_str()).0) else {
@@ -196,6 +204,7 @@ impl<'a, R: Files> FileKeeper<'a, R> {
             faults: 0,
             trouble: None,
             told: None,
+            drawn: None,
         })
     }
 
@@ -248,6 +257,7 @@ impl<'a, R: Files> FileKeeper<'a, R> {
         ensures spelt { IfOk result (Stands self.new.left self.new.id) }
         ensures id { self.new.id ≡ self.old.id }
         ensures faults { self.new.faults ≡ self.old.faults }
+        ensures drawn { self.new.drawn ≡ self.old.drawn }
     {
         at(Part::Folder, settle(self.files, self.folder.as_str()))?;
         at(
@@ -264,6 +274,7 @@ impl<'a, R: Files> FileKeeper<'a, R> {
             (self.new.left ≡ held_text (record { mark = mark.now; id = self.old.id })) }
         ensures id { self.new.id ≡ self.old.id }
         ensures faults { self.new.faults ≡ self.old.faults }
+        ensures drawn { self.new.drawn ≡ self.old.drawn }
     {
         at(
             Part::Mark,
@@ -299,6 +310,7 @@ impl<'a, R: Files> FileKeeper<'a, R> {
         ensures left { OnOk result (self.new.left ≡ []) }
         ensures id { self.new.id ≡ self.old.id }
         ensures faults { self.new.faults ≡ self.old.faults }
+        ensures drawn { self.new.drawn ≡ self.old.drawn }
     {
         at(
             Part::Mark,
@@ -314,6 +326,7 @@ impl<'a, R: Files> FileKeeper<'a, R> {
         ensures left { OnOk result (self.new.left ≡ left_text mark.now self.old.id) }
         ensures id { self.new.id ≡ self.old.id }
         ensures faults { self.new.faults ≡ self.old.faults }
+        ensures drawn { self.new.drawn ≡ self.old.drawn }
     {
         match mark {
             Mark::Fresh => self.remove(),
@@ -367,7 +380,10 @@ impl<'a, R: Files> Keeper for FileKeeper<'a, R> {
 impl<'a, R: Files + RandomSource> Salts for FileKeeper<'a, R> {
     fn salt(&mut self) -> Result<[u8; 16], Failed> {
         match drawn(self.files) {
-            Ok(salt) => Ok(salt),
+            Ok(salt) => {
+                self.drawn = Some(salt);
+                Ok(salt)
+            }
             Err(error) => {
                 self.faults = self.faults.saturating_add(1);
                 self.trouble = Some((Part::Random, error));

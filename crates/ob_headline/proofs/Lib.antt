@@ -37,6 +37,7 @@ pub mod LeftLemmas
 pub mod BegunLemmas
 pub mod StopLemmas
 pub mod SavedMarks
+pub mod DrawnSalts
 pub mod SecretLemmas
 pub mod EffectLemmas
 pub mod BeginsAlike

@@ -21,7 +21,7 @@ module _ {settings : Option Config} {flight : Option FlightSettings} {Takes : Ty
   drawn_has (inr (inl run)) k salt number seals = absurd seals
   drawn_has (inr (inr run)) k salt number seals = record {
     bytes = run.salt;
-    is = refl;
+    is = run.draws.drawn;
     same = seals.salted ∙ by_own_salt run.secret run.salt seals.region seals.place number;
   }
 

@@ -142,7 +142,7 @@ seals_salt (inl run) k salt number seals = absurd seals
 seals_salt (inr (inl run)) k salt number seals = absurd seals
 seals_salt (inr (inr run)) k salt number seals =
     let alone = writes_alone run in
-    record { bytes = run.salt; is = refl; same = seals.salted ∙ alone.salted seals.region seals.place number (alone.own k seals.region seals.place seals.wrote) }
+    record { bytes = run.salt; is = run.drew; same = seals.salted ∙ alone.salted seals.region seals.place number (alone.own k seals.region seals.place seals.wrote) }
 
 pub seals_alone : (words : List Text) (old new : Outside) (k0 k1 : KeeperState) (report : Report) (run : SavedRun words old new k0 k1 report) → SealsAlone run.ran
 seals_alone words old new k0 k1 report run = go run.ran

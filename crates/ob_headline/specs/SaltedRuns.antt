@@ -26,7 +26,7 @@ pub data AnySalted : Type 0 where
   saving : AnySaved → AnySalted
   unsaved : OneSalted → AnySalted
 
--- its salt, if one was drawn
+-- its salt, if one was drawn: the one that its keeper drew last
 abbrev pub drawn_salt : {settings : Option Config} {flight : Option FlightSettings}
     {Takes : Type 0} {tracing : Bool} {old new : Outside} {keeper0 keeper1 : KeeperState}
     {ending : KeptEnding} {answers : List Answer} {report : Report}
@@ -34,7 +34,7 @@ abbrev pub drawn_salt : {settings : Option Config} {flight : Option FlightSettin
     → Option (List ℕ)
 drawn_salt (inl run) = None
 drawn_salt (inr (inl run)) = None
-drawn_salt (inr (inr run)) = Some run.salt
+drawn_salt {keeper1 = keeper1} (inr (inr run)) = keeper1.drawn
 
 abbrev pub salt_of : AnySalted → Option (List ℕ)
 salt_of (saving run) = saved_salt run.one.run.ran

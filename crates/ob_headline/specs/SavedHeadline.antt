@@ -153,6 +153,8 @@ pub record SessionSaved (settings : Option Config) (flight : Option FlightSettin
   pub is : ending ≡ Plain session.ending
   pub answered : answers ≡ session.story.answers
   pub keeper : CountsKeeper session.ending begun keeper1
+  -- the salt is the one that the keeper drew last
+  pub drew : keeper1.drawn ≡ Some salt
   -- of a keeper that told what it held from the first on
   pub leaves : (held : Mark) → keeper0.held ≡ Some held
       → LeavesSaved secret salt (flying flight base) keys session.ending session.story opened

@@ -152,7 +152,7 @@ saved_secret (inl run) = None
 saved_secret (inr (inl run)) = Some run.secret
 saved_secret (inr (inr run)) = Some run.secret
 
--- its salt, where its statements were served
+-- its salt, where its statements were served: the one that its keeper drew last
 abbrev pub saved_salt : {settings : Option Config} {flight : Option FlightSettings}
     {Takes : Type 0} {tracing : Bool} {old new : Outside} {keeper0 keeper1 : KeeperState}
     {ending : KeptEnding} {answers : List Answer} {report : Report}
@@ -160,7 +160,7 @@ abbrev pub saved_salt : {settings : Option Config} {flight : Option FlightSettin
     → Option (List ℕ)
 saved_salt (inl run) = None
 saved_salt (inr (inl run)) = None
-saved_salt (inr (inr run)) = Some run.salt
+saved_salt {keeper1 = keeper1} (inr (inr run)) = keeper1.drawn
 
 -- what took effect of its texts
 abbrev pub saved_effects : {settings : Option Config} {flight : Option FlightSettings}

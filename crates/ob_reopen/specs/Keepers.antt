@@ -11,6 +11,8 @@ pub record KeeperState : Type 0 where
   pub held : Option Mark
   -- how often a call failed
   pub faults : ℕ
+  -- the salt that was drawn last, if one was
+  pub drawn : Option (List ℕ)
 
 -- the numbers of a closing that a mark may name
 pub record AreMarked (region blocks number pack : ℕ) : Type 0 where
@@ -49,6 +51,7 @@ pub record GivesMark (result : Result Mark Failed) (old new : KeeperState) : Typ
   pub within : IfOk result IsMark
   pub told : IfOk result (λ mark. (held : Mark) → old.held ≡ Some held → mark ≡ held)
   pub stays : new.held ≡ old.held
+  pub drawn : new.drawn ≡ old.drawn
 
 -- a mark was handed over: it is held, or what was held stays
 pub record SetsMark {T : Type 0} (mark : Mark) (result : Result T Failed)
@@ -58,6 +61,12 @@ pub record SetsMark {T : Type 0} (mark : Mark) (result : Result T Failed)
   pub told : OnOk result ((held : Mark) → old.held ≡ Some held → new.held ≡ Some mark)
   pub failed : OnErr result ((held : Mark) → old.held ≡ Some held
       → (new.held ≡ Some held) ⊎ (new.held ≡ Some mark))
+  pub drawn : new.drawn ≡ old.drawn
+
+-- the salt that was drawn last: this one, or after a failed call the one before
+abbrev pub drawn_by : Result (List ℕ) Failed → Option (List ℕ) → Option (List ℕ)
+drawn_by (Ok salt) last = Some salt
+drawn_by (Err failed) last = last
 
 -- a salt was drawn, and the mark stays
 pub record DrawsSalt (result : Result (List ℕ) Failed) (old new : KeeperState) : Type 0 where
@@ -65,6 +74,7 @@ pub record DrawsSalt (result : Result (List ℕ) Failed) (old new : KeeperState)
   pub faults : old.faults ≤ new.faults
   pub within : IfOk result AreSaltBytes
   pub stays : new.held ≡ old.held
+  pub drawn : new.drawn ≡ drawn_by result old.drawn
 
 -- ---- a keeper in memory
 pub record MemoryState : Type 0 where
@@ -74,8 +84,9 @@ pub record MemoryState : Type 0 where
   -- the calls so far, and how many of them failed
   pub calls : ℕ
   pub faults : ℕ
-  -- the salts that are left, the last of them the next
+  -- the salts that are left, the last of them the next; the one that was drawn last
   pub salts : List (List ℕ)
+  pub drawn : Option (List ℕ)
 
 abbrev pub salts_in : {A : Type 0} → Option (Vec (List ℕ) A) → List (List ℕ)
 salts_in None = []
@@ -83,11 +94,12 @@ salts_in (Some salts) = salts.items
 
 -- it tells
 abbrev pub told_by : MemoryState → KeeperState
-told_by m = record { held = Some m.mark; faults = m.faults }
+told_by m = record { held = Some m.mark; faults = m.faults; drawn = m.drawn }
 
 -- one call more was made, which failed where its number is listed
 pub record Calls {T : Type 0} (result : Result T Failed) (old new : MemoryState) : Type 0 where
   pub fail : new.fail ≡ old.fail
   pub salts : new.salts ≡ old.salts
+  pub drawn : new.drawn ≡ old.drawn
   pub calls : new.calls ≡ min (old.calls + 1) (2 ^ 64 - 1)
   pub fails : IsErr result ↔ IsTrue (list_any (λ n. n == new.calls) old.fail)

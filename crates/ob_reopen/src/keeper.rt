@@ -7,7 +7,7 @@ use ob_base::Failed;
 /// What keeps a mark where nobody else can change it, from a run to the next: the trusted counter.
 ///
 /// A keeper that tells says which mark it holds. `faults` counts the calls that failed; a count that stands at the
-/// last value of a `u64` counts as risen. No call takes memory.
+/// last value of a `u64` counts as risen. Which salt it drew last every keeper says. No call takes memory.
 pub trait Keeper {
     ghost state: { Self → KeeperState };
 

@@ -1,5 +1,5 @@
 //! A keeper in memory.
-ghost use Rattle.std.specs.Prelude.{◌≡◌, ◌≤◌, [], OnErr};
+ghost use Rattle.std.specs.Prelude.{◌≡◌, ◌≤◌, [], None, OnErr};
 ghost use Rattle.ob_reopen.specs.Keepers.{DrawsSalt, IsMark, GivesMark, SetsMark, CountsFault, Calls, told_by};
 
 use crate::keeper::{Keeper, Salts};
@@ -16,6 +16,7 @@ pub struct MemKeeper {
     faults: u64,
     // the last of them is the next
     salts: Option<Vec<[u8; 16]>>,
+    drawn: Option<[u8; 16]>,
 }
 
 impl Model for MemKeeper {
@@ -29,6 +30,7 @@ impl Model for MemKeeper {
       calls = k.calls;
       faults = k.faults;
       salts = salts_in k.salts;
+      drawn = k.drawn;
     } };
 
     ghost invariant = { λ k. IsMark k.mark };
@@ -38,8 +40,14 @@ impl MemKeeper {
     /// A keeper that holds this mark. Its calls, counted from 1, fail where `fail` has their number.
     pub fn new(mark: Mark, fail: Vec<u64>) -> MemKeeper
         requires { IsMark mark }
-        ensures { result
-            ≡ record { mark = mark; fail = fail.items; calls = 0; faults = 0; salts = [] } }
+        ensures { result ≡ record {
+          mark = mark;
+          fail = fail.items;
+          calls = 0;
+          faults = 0;
+          salts = [];
+          drawn = None;
+        } }
     {
         MemKeeper {
             mark,
@@ -47,6 +55,7 @@ impl MemKeeper {
             calls: 0,
             faults: 0,
             salts: None,
+            drawn: None,
         }
     }
 
@@ -59,6 +68,7 @@ impl MemKeeper {
             fail,
             calls,
             faults,
+            drawn,
             ..
         } = self;
         MemKeeper {
@@ -67,6 +77,7 @@ impl MemKeeper {
             calls,
             faults,
             salts: Some(salts),
+            drawn,
         }
     }
 
@@ -122,6 +133,7 @@ impl Salts for MemKeeper {
         match &next {
             Some(bytes) => {
                 salt.copy_from_slice(bytes);
+                self.drawn = Some(salt);
                 Ok(salt)
             }
             None => {

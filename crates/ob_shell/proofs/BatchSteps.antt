@@ -199,6 +199,7 @@ module _ {R : Type 0} (state : R → RevState) (e0 e1 : Engine R) (s0 s1 : Store
           means = subst (λ (l : List Stmt). Means state first l (Err stop) e0 s0 e1 s1) same c.means;
           keeper = subst (λ (l : List Stmt). KeeperBehind state first l (Err stop) e0 s0 e1 s1 k0 k1) same c.keeper;
           counts = c.counts;
+          drawn = c.drawn;
         }
       where
         wants : WantsMemory p0 first (seen_of e1) s0 s1 ⊥ → WantsMemory p0 first (seen_of e1) s0 s1 ⊤
@@ -392,6 +393,7 @@ module _ {R : Type 0} (state : R → RevState) (e0 e1 : Engine R) (s0 s1 : Store
         means = means_first;
         keeper = keeper_first;
         counts = c.counts;
+        drawn = c.drawn;
       }
 
       owes_first : (own : is_fault outcome ≡ false) (tables : Tables) (d : Draws) → AreDraws e0 d → ReadsTrue state e0 s0 s1 tables → Owes (standing m0 [] g) behind_first first d tables

@@ -63,3 +63,34 @@ module _ {R : Type 0} (state : R → RevState) where
       → CountsKeeper (Ran result) m0.keeper m2.keeper
   session_counts m0 m1 m2 texts more answers part result steps last =
       counts_on result m0.keeper m1.keeper m2.keeper (steps_count m0 m1 texts answers steps) (last_counts m1 m2 more part result last)
+
+  -- ---- nor is a salt drawn in it
+  undrawn : (m0 m1 : Machine R) → m1 ≡ m0 → m1.keeper.drawn ≡ m0.keeper.drawn
+  undrawn m0 m1 same = ap (λ (m : Machine R). m.keeper.drawn) same
+
+  step_drawn : (m0 m1 : Machine R) (text : List ℕ) (answer : Answer) → Step state m0 m1 text answer → m1.keeper.drawn ≡ m0.keeper.drawn
+  step_drawn m0 m1 text answer step = elim step.done [
+    | inl still ↦ undrawn m0 m1 still.same
+    | inr did ↦ did.does.drawn
+  ]
+
+  steps_drawn : (m0 m2 : Machine R) (texts : List (List ℕ)) (answers : List Answer) → Steps state m0 m2 texts answers → m2.keeper.drawn ≡ m0.keeper.drawn
+  steps_drawn m0 m2 texts answers at_rest = refl
+  steps_drawn m0 m2 texts answers (one_more {m1 = m1} {text = text} {one = one} {texts = more} {answers = given} step rest) = steps_drawn m1 m2 more given rest ∙ step_drawn m0 m1 text one step
+  steps_drawn m0 m2 texts answers (more_together {m1 = m1} {texts = more} {answers = given} step rest) = steps_drawn m1 m2 more given rest ∙ ap (λ (k : KeeperState). k.drawn) step.may.keeper
+
+  part_drawn : (m1 m2 : Machine R) (more : List (List ℕ)) (run : RunStop) (part : List ℕ) → PartlyAt state m1 m2 more run part → m2.keeper.drawn ≡ m1.keeper.drawn
+  part_drawn m1 m2 [] run part idle = undrawn m1 m2 idle.rests.machine
+  part_drawn m1 m2 (text ∷ more) run part (inl idle) = undrawn m1 m2 idle.rests.machine
+  part_drawn m1 m2 (text ∷ more) run part (inr (inl cut)) = cut.does.drawn
+  part_drawn m1 m2 (text ∷ more) run part (inr (inr (inl done))) = step_drawn m1 m2 text done.answer done.step
+  part_drawn m1 m2 (text ∷ more) run part (inr (inr (inr (inl cut)))) = ap (λ (k : KeeperState). k.drawn) cut.may.keeper
+  part_drawn m1 m2 (text ∷ more) run part (inr (inr (inr (inr done)))) = ap (λ (k : KeeperState). k.drawn) done.step.may.keeper
+
+  last_drawn : (m1 m2 : Machine R) (more : List (List ℕ)) (part : List ℕ) (result : Result Bool Stop) → LastPart state m1 m2 more part result → m2.keeper.drawn ≡ m1.keeper.drawn
+  last_drawn m1 m2 more part (Ok flag) rests = undrawn m1 m2 rests.machine
+  last_drawn m1 m2 more part (Err stop) last =
+      by_last state m1 m2 more part (λ (s : Stop). m2.keeper.drawn ≡ m1.keeper.drawn) stop last (λ run partly. part_drawn m1 m2 more run part partly) (λ rests. undrawn m1 m2 rests.machine) (λ rests. undrawn m1 m2 rests.machine)
+
+  pub session_drawn : (m0 m1 m2 : Machine R) (texts more : List (List ℕ)) (answers : List Answer) (part : List ℕ) (result : Result Bool Stop) → Steps state m0 m1 texts answers → LastPart state m1 m2 more part result → m2.keeper.drawn ≡ m0.keeper.drawn
+  session_drawn m0 m1 m2 texts more answers part result steps last = last_drawn m1 m2 more part result last ∙ steps_drawn m0 m1 texts answers steps

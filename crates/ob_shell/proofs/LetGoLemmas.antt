@@ -256,6 +256,7 @@ module _ {R : Type 0} (state : R → RevState) (room : ℕ) (stmt : Stmt) (owed 
     means = means_left did.means;
     keeper = keeper_left k0 k1 did.keeper;
     counts = did.counts;
+    drawn = did.drawn;
   }
 
 -- ---- of a batch that was answered
@@ -294,6 +295,7 @@ module _ {R : Type 0} (state : R → RevState) (m0 m1 : Machine R) (room : ℕ) 
     means = means_left state room stmt (statements_of m1.owed) outcome m0.engine m0.store m1.engine m1.store does.means;
     keeper = keeper_left state room stmt (statements_of m1.owed) outcome m0.engine m0.store m1.engine m1.store m0.keeper m1.keeper does.keeper;
     counts = does.counts;
+    drawn = does.drawn;
   }
 
   owes_left : (failed : Bool) (stmt : Stmt) (d : Draws) (tables : Tables) → by_fault failed (m1.owed ≡ []) (Owes m0 m1 stmt d tables) → by_fault failed (behind.owed ≡ []) (Owes m0 behind stmt d tables)

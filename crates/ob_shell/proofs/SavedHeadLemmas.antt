@@ -72,6 +72,7 @@ module _ {Takes : Type 0} (settings : Option Config) (flight : Option FlightSett
         is = ran.ending ∙ ap (λ (e : Ending). Plain e) (sym told.is);
         answered = refl;
         keeper = subst (λ (e : Ending). CountsKeeper e ran.begun k1) (sym told.is) ran.keeper;
+        drew = ran.drew;
         leaves = λ held is. subst (λ (e : Ending). LeavesSaved ran.secret ran.salt (flying flight ran.base) ran.keys e told.r.shown.story ran.opened mid.store ran.begun k1) (sym told.is) (told.also.1 held is);
       }
 

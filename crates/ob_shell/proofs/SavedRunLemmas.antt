@@ -1,8 +1,9 @@
 -- A run whose tables are saved, after its first line.
 use Rattle.ob_shell.proofs.Words.{ap, arith, Base, BeginsToSave, Bool, Config, empty_tally, Engine, Err, false, Faults, faults_of, Fetch, first_public, FirstLine, flagged, Flights, flights_at, FlightSettings, flying, Halt, high_of, IfOk, inr, IsFedBy, KeeperState, KeptEnded, KeyRead, KeySet, limit_of, List, machine_of, no_flights, None, Ok, Option, OutFailed, outside_of, Plain, Public, public_of, Ran, refl, RestsOn, Result, RevState, rows_of, ServesAlone, SessionRan, Silenced, Some, Stop, StopCause, StoreState, subst, sym, Tally, Traced, true, ℕ, [], ◌++◌, ◌∙◌, ◌≡◌, ◌≤◌}
+use Rattle.ob_headline.proofs.DrawnSalts.{began_drew}
 use Rattle.ob_headline.specs.KeyLine.{after_line, first_line, secret_of}
 use Rattle.ob_shell.proofs.CountLemmas.{same_cause}
-use Rattle.ob_shell.proofs.SessionLemmas.{keeper_counts, leaves, ran_after, ran_last}
+use Rattle.ob_shell.proofs.SessionLemmas.{keeper_counts, keeper_drawn, leaves, ran_after, ran_last}
 use Rattle.ob_shell.proofs.TopLemmas.{after_last, after_secret, piece_is, piece_prompt, piece_within, shown_by}
 use Rattle.ob_shell.proofs.TraceLemmas.{traced_none, traced_whole}
 use Rattle.ob_shell.specs.EngagingSaved.{EndsUnsaved, EngagesSaved, RanSaved, RanSession, RanUnsaved, ServesSaved, StartsSaved}
@@ -27,6 +28,7 @@ module _ {R : Type 0} (state : R → RevState) (base : Base) (config : Config) (
     ending = ending;
     counted = counted;
     keeper = keeper_counts (flying flight base) config keys secret first last ended.high result k0 k1 left s0 s1 (stands_flying flight engages.stands) most is_high (sink_of tracing t0 t1) f0 f1 l0 l1 gave w0 w1 ran;
+    drawn = keeper_drawn (flying flight base) config keys secret first last ended.high result k0 k1 left s0 s1 (stands_flying flight engages.stands) most is_high (sink_of tracing t0 t1) f0 f1 l0 l1 gave w0 w1 ran;
     leaves = λ begins.
         leaves (flying flight base) config keys secret first last ended.high result k0 k1 left s0 s1 (stands_flying flight engages.stands) most is_high (sink_of tracing t0 t1) f0 f1 l0 l1 gave w0 w1 ran secret salt begins.agrees
         (ap (λ (p : Public). p.save) (sym begins.public) ∙ begins.saves) begins.of begins.salted (λ mark is. flying_each flight base (λ x. RestsOn secret mark base.public s0.kept x.tables) (begins.rests mark is));
@@ -93,6 +95,7 @@ module _ {R : Type 0} (state : R → RevState) (config : Config) (flight : Optio
     silent = subst (λ (f : Faults). Silenced ended.quiet f new) same_faults serves.silent;
     ending = serves.ending;
     keeper = serves.keeper;
+    drew = serves.drawn ∙ began_drew starts.began;
     leaves = λ held is. serves.leaves (starts.saves held is);
   }
 

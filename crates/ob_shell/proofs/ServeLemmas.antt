@@ -54,6 +54,7 @@ module _ {R E : Type 0} (state : R → RevState) (grew cut : E → E → List Ev
         means = c.means;
         keeper = c.keeper;
         counts = c.counts;
+        drawn = c.drawn;
       }
 
   -- nothing else was carried out

@@ -32,7 +32,7 @@ use Rattle.ob_script.specs.Trace.{Served}
 use Rattle.ob_seal.specs.Sealed.{sealed}
 use Rattle.ob_shell.proofs.UntamperedLemmas.{MeetsChange, last_met, steps_calm}
 use Rattle.ob_shell.proofs.LastingLemmas.{HasSizes, steps_sizes, last_rows, steps_sealed, last_sealed, steps_tell, none_sealed}
-use Rattle.ob_shell.proofs.LeaveCounts.{session_counts}
+use Rattle.ob_shell.proofs.LeaveCounts.{session_counts, session_drawn}
 use Rattle.ob_shell.proofs.LeaveSession.{session_leaves}
 use Rattle.ob_shell.proofs.LaterLemmas.{steps_later, last_later}
 use Rattle.ob_shell.proofs.LeafLemmas.{Reads, given_none}
@@ -447,6 +447,10 @@ module _ {R : Type 0} {state : R → RevState} {Lost : Type 0} (base : Base) (co
   -- the keeper's faults rose exactly where the session ended for that
   pub keeper_counts : CountsKeeper (RanEnding result) k0 k1
   keeper_counts = session_counts state m0 ran.middle m2 ran.served ran.more ran.answers ran.part result ran.steps ran.last
+
+  -- and it drew no salt
+  pub keeper_drawn : k1.drawn ≡ k0.drawn
+  keeper_drawn = session_drawn state m0 ran.middle m2 ran.served ran.more ran.answers ran.part result ran.steps ran.last
 
   -- and it holds a mark for which the tables rest
   pub leaves : (secret salt : List ℕ) → Agrees state first s0 → base.public.save ≡ true → AreByRegion secret keys → ((q : ℕ) → base.start.region < q → (pair_of keys q).salt ≡ Some salt)

@@ -170,6 +170,7 @@ pub record ServesSaved {R : Type 0} (state : R → RevState) (base : Base) (keys
   pub ending : ended.ending ≡ Plain (Ran (flagged result))
   pub counted : IfOk result (λ tally. ended.tally ≡ tally)
   pub keeper : CountsKeeper (Ran (flagged result)) keeper0 keeper1
+  pub drawn : keeper1.drawn ≡ keeper0.drawn
   pub leaves : Told → LeavesSaved secret salt base keys (Ran (flagged result)) ran.story
       begun new keeper0 keeper1
 
@@ -214,6 +215,8 @@ pub record RanSession (config : Config) (flight : Option FlightSettings) (tracin
   pub silent : Silenced ended.quiet old.faults new.faults
   pub ending : ended.ending ≡ Plain (Ran result)
   pub keeper : CountsKeeper (Ran result) begun keeper1
+  -- the salt is the one that the keeper drew last
+  pub drew : keeper1.drawn ≡ Some salt
   pub leaves : (held : Mark) → keeper0.held ≡ Some held
       → LeavesSaved secret salt (flying flight base) keys (Ran result) shown.story opened new.store
       begun keeper1

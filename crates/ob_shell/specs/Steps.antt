@@ -142,7 +142,7 @@ StaysAs m0 m1 = m1 ≡ standing m0 m1.owed m1.gathered
 
 -- what is known of a keeper where no tables are saved
 abbrev pub told_nothing : KeeperState
-told_nothing = record { held = None; faults = 0 }
+told_nothing = record { held = None; faults = 0; drawn = None }
 
 -- the engine may be given a statement over this store, and what commits it can save tables where they are to be saved
 pub record IsReady {R : Type 0} (state : R → RevState) (Saves : Type 0) (m : Machine R)
@@ -232,6 +232,7 @@ pub record Does {R : Type 0} (state : R → RevState) (m0 m1 : Machine R) (stmt 
   pub keeper : KeeperBehind state stmt (statements_of m1.owed) result m0.engine m0.store
       m1.engine m1.store m0.keeper m1.keeper
   pub counts : CountsKeeper result m0.keeper m1.keeper
+  pub drawn : m1.keeper.drawn ≡ m0.keeper.drawn
 
 -- the numbers that are drawn after a statement
 abbrev pub draws_behind : {R : Type 0} → (m0 m1 : Machine R) → Stmt → Draws → Draws

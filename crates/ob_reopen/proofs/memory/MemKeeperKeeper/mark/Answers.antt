@@ -12,4 +12,5 @@ returns-in_err-call-clause-gives c =
       within = tt;
       told = tt;
       stays = ap Some held;
+      drawn = c.call.ensures.calls.drawn;
     })

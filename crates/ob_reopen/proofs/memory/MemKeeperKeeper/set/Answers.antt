@@ -11,4 +11,5 @@ returns-in_err-call-clause-sets c =
       faults = c.call.ensures.faults;
       told = tt;
       failed = λ was is. inl (ap Some held ∙ is);
+      drawn = c.call.ensures.calls.drawn;
     })
