@@ -23,7 +23,7 @@ use Rattle.ob_headline.specs.Words.{Faults, Outside, faults_of, keys_in, outside
 use Rattle.ob_headline.specs.declared.ending.Ending.{Ending}
 use Rattle.ob_headline.specs.declared.ending.Ending.TheVariants.{Usage, BadKey, Ran}
 use Rattle.ob_headline.specs.declared.ending.KeptEnding.{KeptEnding}
-use Rattle.ob_headline.specs.declared.ending.KeptEnding.TheVariants.{Plain, OtherPack, OtherKey, Saved, NoMark, StoreFault, NotClosed, KeeperFault}
+use Rattle.ob_headline.specs.declared.ending.KeptEnding.TheVariants.{Plain}
 use Rattle.ob_headline.specs.declared.ending.Report.{Report}
 use Rattle.ob_headline.specs.declared.seed.Seed.{Seed}
 use Rattle.ob_print.specs.Cuts.{Outputs}
@@ -190,20 +190,8 @@ KeptConcludedBy (Plain (Ran (Ok refused))) quiet tally asked w0 w1 f0 f1 status 
     SummedUp refused (summary_text (summary_of tally asked)) w0 w1 f0 f1 status
 KeptConcludedBy (Plain (Ran (Err stop))) quiet tally asked w0 w1 f0 f1 status =
     KeptClosedBy (Plain (Ran (Err stop))) quiet w0 w1 f0 f1 status
-KeptConcludedBy OtherPack quiet tally asked w0 w1 f0 f1 status =
-    KeptClosedBy OtherPack quiet w0 w1 f0 f1 status
-KeptConcludedBy OtherKey quiet tally asked w0 w1 f0 f1 status =
-    KeptClosedBy OtherKey quiet w0 w1 f0 f1 status
-KeptConcludedBy Saved quiet tally asked w0 w1 f0 f1 status =
-    KeptClosedBy Saved quiet w0 w1 f0 f1 status
-KeptConcludedBy NoMark quiet tally asked w0 w1 f0 f1 status =
-    KeptClosedBy NoMark quiet w0 w1 f0 f1 status
-KeptConcludedBy StoreFault quiet tally asked w0 w1 f0 f1 status =
-    KeptClosedBy StoreFault quiet w0 w1 f0 f1 status
-KeptConcludedBy NotClosed quiet tally asked w0 w1 f0 f1 status =
-    KeptClosedBy NotClosed quiet w0 w1 f0 f1 status
-KeptConcludedBy KeeperFault quiet tally asked w0 w1 f0 f1 status =
-    KeptClosedBy KeeperFault quiet w0 w1 f0 f1 status
+KeptConcludedBy other quiet tally asked w0 w1 f0 f1 status =
+    KeptClosedBy other quiet w0 w1 f0 f1 status
 
 -- ---- the whole run, except for its last line
 -- neither the keeper nor the store was asked for anything

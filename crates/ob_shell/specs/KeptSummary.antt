@@ -12,7 +12,7 @@ use Rattle.ob_headline.specs.Keeping.{kept_line, kept_status}
 use Rattle.ob_headline.specs.KeptHeadline.{KeptHeadline}
 use Rattle.ob_headline.specs.Words.{Answer, Faults, Outside, SinksRose, keys_in}
 use Rattle.ob_headline.specs.declared.ending.KeptEnding.{KeptEnding}
-use Rattle.ob_headline.specs.declared.ending.KeptEnding.TheVariants.{Plain, OtherPack, OtherKey, Saved, NoMark, StoreFault, NotClosed, KeeperFault}
+use Rattle.ob_headline.specs.declared.ending.KeptEnding.TheVariants.{Plain}
 use Rattle.ob_headline.specs.declared.ending.Report.{Report}
 use Rattle.ob_headline.specs.declared.seed.Seed.{Seed}
 use Rattle.ob_print.specs.Cuts.{Outputs}
@@ -23,35 +23,17 @@ use Rattle.ob_shell.specs.Top.{EndingTally}
 -- a run that came to the end of the text ends with its summary, another one with its last line
 abbrev pub kept_conclusion : KeptEnding → Tally → List Access → List ℕ
 kept_conclusion (Plain ending) tally asked = conclusion ending tally asked
-kept_conclusion OtherPack tally asked = kept_line OtherPack
-kept_conclusion OtherKey tally asked = kept_line OtherKey
-kept_conclusion Saved tally asked = kept_line Saved
-kept_conclusion NoMark tally asked = kept_line NoMark
-kept_conclusion StoreFault tally asked = kept_line StoreFault
-kept_conclusion NotClosed tally asked = kept_line NotClosed
-kept_conclusion KeeperFault tally asked = kept_line KeeperFault
+kept_conclusion other tally asked = kept_line other
 
 -- the status is that of the run, or a sink's fault where its summary was not written whole
 abbrev pub KeptStatusIs : KeptEnding → (status : ℕ) (Whole Rose : Type 0) → Type 0
 KeptStatusIs (Plain ending) status Whole Rose = StatusIs ending status Whole Rose
-KeptStatusIs OtherPack status Whole Rose = status ≡ kept_status OtherPack
-KeptStatusIs OtherKey status Whole Rose = status ≡ kept_status OtherKey
-KeptStatusIs Saved status Whole Rose = status ≡ kept_status Saved
-KeptStatusIs NoMark status Whole Rose = status ≡ kept_status NoMark
-KeptStatusIs StoreFault status Whole Rose = status ≡ kept_status StoreFault
-KeptStatusIs NotClosed status Whole Rose = status ≡ kept_status NotClosed
-KeptStatusIs KeeperFault status Whole Rose = status ≡ kept_status KeeperFault
+KeptStatusIs other status Whole Rose = status ≡ kept_status other
 
 -- what was counted of the answers, where the run came to the end of its input
 abbrev pub KeptTally : KeptEnding → List Answer → Tally → Type 0
 KeptTally (Plain ending) answers tally = EndingTally ending answers tally
-KeptTally OtherPack answers tally = ⊤
-KeptTally OtherKey answers tally = ⊤
-KeptTally Saved answers tally = ⊤
-KeptTally NoMark answers tally = ⊤
-KeptTally StoreFault answers tally = ⊤
-KeptTally NotClosed answers tally = ⊤
-KeptTally KeeperFault answers tally = ⊤
+KeptTally other answers tally = ⊤
 
 -- what was written of a run that ended so, and with which status; nothing after a fault of the trace's sink
 pub record KeptConcludes (ending : KeptEnding) (tally : Tally) (asked : List Access) (opened : ℕ)
