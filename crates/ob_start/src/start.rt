@@ -8,7 +8,7 @@ ghost use Rattle.ob_start.specs.declared.start.StartErr.TheVariants.{NoMemory as
 
 use ob_base::NoMemory;
 use ob_file::{Complaint, Names};
-use ob_mark::{Held, NotId, held_of, id_of};
+use ob_mark::{NotId, held_of, id_of};
 use std::io::{Error, ErrorKind};
 
 /// Why a run ends before anything is read.
@@ -182,8 +182,11 @@ pub(crate) fn mark_found(text: &[u8]) -> FoundMark
         return FoundMark::Nothing;
     }
     match held_of(text) {
-        Some(Held { id: Some(id), .. }) => FoundMark::Of(id),
-        _ => FoundMark::Other,
+        Some(held) => match held.id {
+            Some(id) => FoundMark::Of(id),
+            None => FoundMark::Other,
+        },
+        None => FoundMark::Other,
     }
 }
 
