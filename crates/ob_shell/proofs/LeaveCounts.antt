@@ -70,7 +70,7 @@ module _ {R : Type 0} (state : R → RevState) where
 
   step_drawn : (m0 m1 : Machine R) (text : List ℕ) (answer : Answer) → Step state m0 m1 text answer → m1.keeper.drawn ≡ m0.keeper.drawn
   step_drawn m0 m1 text answer step = elim step.done [
-    | inl still ↦ undrawn m0 m1 still.same
+    | inl still ↦ ap (λ (m : Machine R). m.keeper.drawn) still.same
     | inr did ↦ did.does.drawn
   ]
 

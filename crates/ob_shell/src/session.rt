@@ -577,7 +577,7 @@ impl<'a, R: Revisions, S: BlockStore, B: Commit<S>, K: Sink, T: Sink, D: Digeste
     }
 
     // Takes one byte, and the text that it ends.
-    fn turn(
+    fn take_byte(
         &mut self,
         manner: Manner,
         session: &mut Session,

@@ -37,12 +37,12 @@ returns-in-Ok-None-clause-reads g c =
     let before = c.bytes.invariant in
     finish_reads _ _ _ _ _ _ (so_far_end before.so_far fetch.fed) fetch.cause.1 fetch.cause.2 fetch.cause.3 before.short before.traced _ _ _ c.finish.result before.waits before.sink c.finish.ensures.takes
 
-pub returns-in-Ok-Some-turn-clause-reads : goal.returns-in-Ok-Some-turn-clause-reads
-returns-in-Ok-Some-turn-clause-reads g c =
+pub returns-in-Ok-Some-take_byte-clause-reads : goal.returns-in-Ok-Some-take_byte-clause-reads
+returns-in-Ok-Some-take_byte-clause-reads g c =
     let fetch = rw c.in-Ok-Some.field-0-is at c.in-Ok-Some.ensures in
-    let left : c.turn.result ≡ Ok (Some c.in-Ok-Some-turn.stop) = c.in-Ok-Some-turn.is ∙ ap Ok c.in-Ok-Some-turn.field-0-is in
-    let takes = rw left at c.turn.ensures.takes in
-    read_untaken _ _ _ _ _ _ c.bytes.invariant.so_far fetch.fed fetch.cause.2 c.bytes.invariant.traced c.in-Ok-Some-turn.stop takes.0.done takes.0.traced takes.1
+    let left : c.take_byte.result ≡ Ok (Some c.in-Ok-Some-take_byte.stop) = c.in-Ok-Some-take_byte.is ∙ ap Ok c.in-Ok-Some-take_byte.field-0-is in
+    let takes = rw left at c.take_byte.ensures.takes in
+    read_untaken _ _ _ _ _ _ c.bytes.invariant.so_far fetch.fed fetch.cause.2 c.bytes.invariant.traced c.in-Ok-Some-take_byte.stop takes.0.done takes.0.traced takes.1
 
 pub returns-in-Err-clause-reads : goal.returns-in-Err-clause-reads
 returns-in-Err-clause-reads g c =
@@ -57,17 +57,17 @@ bytes-smaller g c =
 pub bytes-preserved : goal.bytes-preserved
 bytes-preserved g c =
     let fetch = rw c.in-Ok-Some.field-0-is at c.in-Ok-Some.ensures in
-    let left : c.turn.result ≡ Ok None = c.in-Ok-None-turn.is ∙ ap Ok c.in-Ok-None-turn.field-0-is in
-    let takes = rw left at c.turn.ensures.takes in
-    let ready = rw left at c.turn.ensures.ready in
-    let pending = c.turn.ensures.pending left in
+    let left : c.take_byte.result ≡ Ok None = c.in-Ok-None-take_byte.is ∙ ap Ok c.in-Ok-None-take_byte.field-0-is in
+    let takes = rw left at c.take_byte.ensures.takes in
+    let ready = rw left at c.take_byte.ensures.ready in
+    let pending = c.take_byte.ensures.pending left in
     let before = c.bytes.invariant in
     record {
       so_far = so_far_turn before.so_far fetch.fed pending.0 takes.done;
       short = pending.1;
       ready = takes.ready;
       waits = takes.waits;
-      keeps = keeps_then before.keeps c.turn.ensures.keeps;
+      keeps = keeps_then before.keeps c.take_byte.ensures.keeps;
       fed_by = fetch.fed_by;
       source = fetch.cause.0 ∙ before.source;
       sink = takes.cause.out ∙ before.sink;
@@ -79,16 +79,16 @@ bytes-preserved g c =
 pub returns-in-Ok-None-clause-traced : goal.returns-in-Ok-None-clause-traced
 returns-in-Ok-None-clause-traced g c = more_traced _ _ _ _ _ _ _ _ _ _ _ _ _ _ _ _ _ _ _ _ c.finish.result c.bytes.invariant.traced c.finish.ensures.takes
 
-pub returns-in-Ok-Some-turn-clause-traced : goal.returns-in-Ok-Some-turn-clause-traced
-returns-in-Ok-Some-turn-clause-traced g c =
-    let left : c.turn.result ≡ Ok (Some c.in-Ok-Some-turn.stop) = c.in-Ok-Some-turn.is ∙ ap Ok c.in-Ok-Some-turn.field-0-is in
+pub returns-in-Ok-Some-take_byte-clause-traced : goal.returns-in-Ok-Some-take_byte-clause-traced
+returns-in-Ok-Some-take_byte-clause-traced g c =
+    let left : c.take_byte.result ≡ Ok (Some c.in-Ok-Some-take_byte.stop) = c.in-Ok-Some-take_byte.is ∙ ap Ok c.in-Ok-Some-take_byte.field-0-is in
     rw left at
-    (more_traced _ _ _ _ _ _ _ _ _ _ _ _ _ _ _ _ _ _ _ _ c.turn.result c.bytes.invariant.traced c.turn.ensures.takes)
+    (more_traced _ _ _ _ _ _ _ _ _ _ _ _ _ _ _ _ _ _ _ _ c.take_byte.result c.bytes.invariant.traced c.take_byte.ensures.takes)
 
 pub returns-in-Err-clause-traced : goal.returns-in-Err-clause-traced
 returns-in-Err-clause-traced g c =
     rw c.in-Err.is at
-    (more_traced _ _ _ _ _ _ _ _ _ _ _ _ _ _ _ _ _ _ _ _ c.turn.result c.bytes.invariant.traced c.turn.ensures.takes)
+    (more_traced _ _ _ _ _ _ _ _ _ _ _ _ _ _ _ _ _ _ _ _ c.take_byte.result c.bytes.invariant.traced c.take_byte.ensures.takes)
 
 pub returns-in-Ok-None-clause-cause : goal.returns-in-Ok-None-clause-cause
 returns-in-Ok-None-clause-cause g c =
@@ -98,22 +98,22 @@ returns-in-Ok-None-clause-cause g c =
     more_cause _ _ _ _ _ _ _ _ _ _ _ _ _ _ _ _ _ _ (g.I.Source.faults c.args.input.now) (g.I.Source.faults c.next.new.source) (g.K.Sink.faults c.args.self.now.out.now) (g.T.Sink.faults c.args.self.now.trace.now) (g.K.Sink.faults c.bytes.self.out.now, g.T.Sink.faults c.bytes.self.trace.now) (g.K.Sink.faults there.self.out.now, g.T.Sink.faults there.self.trace.now)
     (fetch.cause.0 ∙ before.source) before.sink before.trace c.finish.result by_room c.finish.ensures.takes
 
-pub returns-in-Ok-Some-turn-clause-cause : goal.returns-in-Ok-Some-turn-clause-cause
-returns-in-Ok-Some-turn-clause-cause g c =
-    let left : c.turn.result ≡ Ok (Some c.in-Ok-Some-turn.stop) = c.in-Ok-Some-turn.is ∙ ap Ok c.in-Ok-Some-turn.field-0-is in
+pub returns-in-Ok-Some-take_byte-clause-cause : goal.returns-in-Ok-Some-take_byte-clause-cause
+returns-in-Ok-Some-take_byte-clause-cause g c =
+    let left : c.take_byte.result ≡ Ok (Some c.in-Ok-Some-take_byte.stop) = c.in-Ok-Some-take_byte.is ∙ ap Ok c.in-Ok-Some-take_byte.field-0-is in
     let fetch = rw c.in-Ok-Some.field-0-is at c.in-Ok-Some.ensures in
     let before = c.bytes.invariant in
-    let there = c.turn.new in
+    let there = c.take_byte.new in
     rw left at
-    (more_cause _ _ _ _ _ _ _ _ _ _ _ _ _ _ _ _ _ (ServesAlone c.args.manner.flight (public_of c.args.self.now.engine.now)) (g.I.Source.faults c.args.input.now) (g.I.Source.faults c.next.new.source) (g.K.Sink.faults c.args.self.now.out.now) (g.T.Sink.faults c.args.self.now.trace.now) (g.K.Sink.faults c.bytes.self.out.now, g.T.Sink.faults c.bytes.self.trace.now) (g.K.Sink.faults there.self.out.now, g.T.Sink.faults there.self.trace.now) (fetch.cause.0 ∙ before.source) before.sink before.trace c.turn.result (by_byte c.bytes.session.pending c.in-Ok-Some.b) c.turn.ensures.takes)
+    (more_cause _ _ _ _ _ _ _ _ _ _ _ _ _ _ _ _ _ (ServesAlone c.args.manner.flight (public_of c.args.self.now.engine.now)) (g.I.Source.faults c.args.input.now) (g.I.Source.faults c.next.new.source) (g.K.Sink.faults c.args.self.now.out.now) (g.T.Sink.faults c.args.self.now.trace.now) (g.K.Sink.faults c.bytes.self.out.now, g.T.Sink.faults c.bytes.self.trace.now) (g.K.Sink.faults there.self.out.now, g.T.Sink.faults there.self.trace.now) (fetch.cause.0 ∙ before.source) before.sink before.trace c.take_byte.result (by_byte c.bytes.session.pending c.in-Ok-Some.b) c.take_byte.ensures.takes)
 
 pub returns-in-Err-clause-cause : goal.returns-in-Err-clause-cause
 returns-in-Err-clause-cause g c =
     let fetch = rw c.in-Ok-Some.field-0-is at c.in-Ok-Some.ensures in
     let before = c.bytes.invariant in
-    let there = c.turn.new in
+    let there = c.take_byte.new in
     rw c.in-Err.is at
-    (more_cause _ _ _ _ _ _ _ _ _ _ _ _ _ _ _ _ _ (ServesAlone c.args.manner.flight (public_of c.args.self.now.engine.now)) (g.I.Source.faults c.args.input.now) (g.I.Source.faults c.next.new.source) (g.K.Sink.faults c.args.self.now.out.now) (g.T.Sink.faults c.args.self.now.trace.now) (g.K.Sink.faults c.bytes.self.out.now, g.T.Sink.faults c.bytes.self.trace.now) (g.K.Sink.faults there.self.out.now, g.T.Sink.faults there.self.trace.now) (fetch.cause.0 ∙ before.source) before.sink before.trace c.turn.result (by_byte c.bytes.session.pending c.in-Ok-Some.b) c.turn.ensures.takes)
+    (more_cause _ _ _ _ _ _ _ _ _ _ _ _ _ _ _ _ _ (ServesAlone c.args.manner.flight (public_of c.args.self.now.engine.now)) (g.I.Source.faults c.args.input.now) (g.I.Source.faults c.next.new.source) (g.K.Sink.faults c.args.self.now.out.now) (g.T.Sink.faults c.args.self.now.trace.now) (g.K.Sink.faults c.bytes.self.out.now, g.T.Sink.faults c.bytes.self.trace.now) (g.K.Sink.faults there.self.out.now, g.T.Sink.faults there.self.trace.now) (fetch.cause.0 ∙ before.source) before.sink before.trace c.take_byte.result (by_byte c.bytes.session.pending c.in-Ok-Some.b) c.take_byte.ensures.takes)
 
 pub returns-in-Ok-None-clause-quiet : goal.returns-in-Ok-None-clause-quiet
 returns-in-Ok-None-clause-quiet g c =
@@ -122,17 +122,17 @@ returns-in-Ok-None-clause-quiet g c =
     more_quiet _ _ _ _ _ _ _ _ _ _ _ _ _ _ _ _ _ (g.I.Source.faults c.args.input.now) (g.I.Source.faults c.next.new.source) (g.K.Sink.faults c.args.self.now.out.now) (g.T.Sink.faults c.args.self.now.trace.now) (g.K.Sink.faults c.bytes.self.out.now, g.T.Sink.faults c.bytes.self.trace.now) (g.K.Sink.faults there.self.out.now, g.T.Sink.faults there.self.trace.now) before.sink before.trace c.finish.result
     c.finish.ensures.takes
 
-pub returns-in-Ok-Some-turn-clause-quiet : goal.returns-in-Ok-Some-turn-clause-quiet
-returns-in-Ok-Some-turn-clause-quiet g c =
-    let left : c.turn.result ≡ Ok (Some c.in-Ok-Some-turn.stop) = c.in-Ok-Some-turn.is ∙ ap Ok c.in-Ok-Some-turn.field-0-is in
+pub returns-in-Ok-Some-take_byte-clause-quiet : goal.returns-in-Ok-Some-take_byte-clause-quiet
+returns-in-Ok-Some-take_byte-clause-quiet g c =
+    let left : c.take_byte.result ≡ Ok (Some c.in-Ok-Some-take_byte.stop) = c.in-Ok-Some-take_byte.is ∙ ap Ok c.in-Ok-Some-take_byte.field-0-is in
     let before = c.bytes.invariant in
-    let there = c.turn.new in
+    let there = c.take_byte.new in
     rw left at
-    (more_quiet _ _ _ _ _ _ _ _ _ _ _ _ _ _ _ _ _ (g.I.Source.faults c.args.input.now) (g.I.Source.faults c.next.new.source) (g.K.Sink.faults c.args.self.now.out.now) (g.T.Sink.faults c.args.self.now.trace.now) (g.K.Sink.faults c.bytes.self.out.now, g.T.Sink.faults c.bytes.self.trace.now) (g.K.Sink.faults there.self.out.now, g.T.Sink.faults there.self.trace.now) before.sink before.trace c.turn.result c.turn.ensures.takes)
+    (more_quiet _ _ _ _ _ _ _ _ _ _ _ _ _ _ _ _ _ (g.I.Source.faults c.args.input.now) (g.I.Source.faults c.next.new.source) (g.K.Sink.faults c.args.self.now.out.now) (g.T.Sink.faults c.args.self.now.trace.now) (g.K.Sink.faults c.bytes.self.out.now, g.T.Sink.faults c.bytes.self.trace.now) (g.K.Sink.faults there.self.out.now, g.T.Sink.faults there.self.trace.now) before.sink before.trace c.take_byte.result c.take_byte.ensures.takes)
 
 pub returns-in-Err-clause-quiet : goal.returns-in-Err-clause-quiet
 returns-in-Err-clause-quiet g c =
     let before = c.bytes.invariant in
-    let there = c.turn.new in
+    let there = c.take_byte.new in
     rw c.in-Err.is at
-    (more_quiet _ _ _ _ _ _ _ _ _ _ _ _ _ _ _ _ _ (g.I.Source.faults c.args.input.now) (g.I.Source.faults c.next.new.source) (g.K.Sink.faults c.args.self.now.out.now) (g.T.Sink.faults c.args.self.now.trace.now) (g.K.Sink.faults c.bytes.self.out.now, g.T.Sink.faults c.bytes.self.trace.now) (g.K.Sink.faults there.self.out.now, g.T.Sink.faults there.self.trace.now) before.sink before.trace c.turn.result c.turn.ensures.takes)
+    (more_quiet _ _ _ _ _ _ _ _ _ _ _ _ _ _ _ _ _ (g.I.Source.faults c.args.input.now) (g.I.Source.faults c.next.new.source) (g.K.Sink.faults c.args.self.now.out.now) (g.T.Sink.faults c.args.self.now.trace.now) (g.K.Sink.faults c.bytes.self.out.now, g.T.Sink.faults c.bytes.self.trace.now) (g.K.Sink.faults there.self.out.now, g.T.Sink.faults there.self.trace.now) before.sink before.trace c.take_byte.result c.take_byte.ensures.takes)
