@@ -154,8 +154,9 @@ pub fn totals(
     let place = draws.below(count);
     draws.keyword(text, "SELECT");
     for i in 0..count {
-        text.put(if i == 0 { " " } else { ", " });
+        text.put(if i == 0 { "" } else { "," });
         if has_groups && i == place {
+            text.put(" ");
             key.put(text);
             put_label(head, &[key.column]);
         } else {
