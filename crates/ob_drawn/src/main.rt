@@ -23,9 +23,10 @@ mod statements;
 mod tables;
 mod values;
 
+use crate::pen::Pen;
 use crate::serving::{Served, Wanted, difference, is_noticed, serve};
 use crate::sessions::{Session, drawn};
-use std::alloc::Global;
+use std::alloc::{AllocError, Global};
 use std::env;
 use std::io::{self, Print, Write};
 use std::process::ExitCode;
@@ -62,91 +63,119 @@ fn numbers<R: Env + AllocGlobal>(rt: &R) -> Option<(u64, u64)> {
     }
 }
 
-// Prints a session of which a part differs.
-fn print_session<R: Print>(
-    rt: &R,
+// Writes a status, how many accesses there were, and answers.
+fn put_answers(to: &mut Pen, word: &str, status: u8, asked: u64, answers: &[u8]) {
+    to.put(word);
+    to.put(": status ");
+    to.put_number(status);
+    to.put(", ");
+    to.put_number(asked);
+    to.put(" accesses\n");
+    to.write(answers);
+}
+
+// Writes a session of which a part differs.
+fn put_session(
+    to: &mut Pen,
     session: &Session,
     words: &str,
     wanted: Wanted<'_>,
     served: &Served,
     part: &str,
-) -> io::Result<()> {
-    let mut out = io::writer(rt);
-    println!(rt;
-        "seed {}, session {}: {part} differ",
-        session.seed, session.number
-    )?;
-    println!(rt; "words {words}")?;
-    out.write_all(session.typed.bytes())?;
+) {
+    to.put("seed ");
+    to.put_number(session.seed);
+    to.put(", session ");
+    to.put_number(session.number);
+    to.put(": ");
+    to.put(part);
+    to.put(" differ\nwords ");
+    to.put(words);
+    to.put("\n");
+    to.write(session.typed.bytes());
     let asked = wanted.asked.unwrap_or(served.asked);
-    println!(rt; "wanted: status {}, {asked} accesses", wanted.status)?;
-    out.write_all(wanted.answers)?;
-    println!(rt; "came: status {}, {} accesses", served.status, served.asked)?;
-    out.write_all(served.answers.bytes())
+    put_answers(to, "wanted", wanted.status, asked, wanted.answers);
+    let answers = served.answers.bytes();
+    put_answers(to, "came", served.status, served.asked, answers);
 }
 
-// Serves a session with these words, of which this is wanted.
-fn try_words<R: Print>(
-    rt: &R,
+// Serves a session with these words, of which this is wanted, and writes it if it differs.
+fn try_words(
     alloc: Global,
     session: &Session,
     words: &str,
     wanted: Wanted<'_>,
     tally: &mut Tally,
-) -> io::Result<()> {
+    to: &mut Pen,
+) -> Result<(), AllocError> {
     let served = serve(alloc, words, session.typed.bytes())?;
     tally.runs = tally.runs.saturating_add(1);
     if is_noticed(alloc, wanted, session.slip, &served)? {
         tally.noticed = tally.noticed.saturating_add(1);
     }
-    match difference(alloc, wanted, &served)? {
-        Some(part) => {
-            tally.differ = tally.differ.saturating_add(1);
-            print_session(rt, session, words, wanted, &served, part)
-        }
-        None => Ok(()),
+    if let Some(part) = difference(alloc, wanted, &served)? {
+        tally.differ = tally.differ.saturating_add(1);
+        put_session(to, session, words, wanted, &served, part);
     }
+    Ok(())
 }
 
 // Serves a session where so many INSERTs are served together, or each by itself. Accesses are counted where there are runs
 // of them.
-fn try_batch<R: Print>(
-    rt: &R,
+fn try_batch(
     alloc: Global,
     session: &Session,
     batch: Option<u32>,
     tally: &mut Tally,
-) -> io::Result<()> {
+    to: &mut Pen,
+) -> Result<(), AllocError> {
     let pen = session.settings.words(alloc, batch);
     let words = str::from_utf8(pen.bytes()).unwrap_or("");
-    let accesses = match batch {
-        Some(_) => session.together.count,
-        None => session.alone.count,
+    let asked = match (session.settings.batch, batch) {
+        (None, _) => None,
+        (Some(_), None) => Some(session.alone.count),
+        (Some(_), Some(_)) => Some(session.together.count),
     };
     let wanted = Wanted {
         status: u8::from(session.refused > 0),
-        asked: session.settings.batch.and(Some(accesses)),
+        asked,
         answers: session.answers.bytes(),
     };
-    try_words(rt, alloc, session, words, wanted, tally)
+    try_words(alloc, session, words, wanted, tally, to)
 }
 
 // Draws a session, and serves it.
-fn try_session<R: Print>(
-    rt: &R,
+fn try_session(
     alloc: Global,
     seed: u64,
     number: u64,
     tally: &mut Tally,
-) -> io::Result<()> {
+    to: &mut Pen,
+) -> Result<(), AllocError> {
     let session = drawn(alloc, seed, number)?;
     tally.texts = tally.texts.saturating_add(session.texts);
     tally.refused = tally.refused.saturating_add(session.refused);
-    try_batch(rt, alloc, &session, None, tally)?;
+    try_batch(alloc, &session, None, tally, to)?;
     match session.settings.batch {
-        Some(most) => try_batch(rt, alloc, &session, Some(most), tally),
+        Some(most) => try_batch(alloc, &session, Some(most), tally, to),
         None => Ok(()),
     }
+}
+
+// Writes how many there were.
+fn put_tally(to: &mut Pen, sessions: u64, tally: Tally) {
+    to.put_number(sessions);
+    to.put(" sessions with ");
+    to.put_number(tally.texts);
+    to.put(" texts, ");
+    to.put_number(tally.refused);
+    to.put(" of them refused\n");
+    to.put_number(tally.runs);
+    to.put(" runs: ");
+    to.put_number(tally.differ);
+    to.put(" differ, ");
+    to.put_number(tally.noticed);
+    to.put(" do with a bit inverted\n");
 }
 
 // Draws and serves all sessions, and tells whether none differs.
@@ -158,17 +187,15 @@ fn try_all<R: Print + AllocGlobal>(rt: &R, seed: u64, sessions: u64) -> io::Resu
         differ: 0,
         noticed: 0,
     };
+    let mut out = io::writer(rt);
     for number in 0..sessions {
-        try_session(rt, rt.alloc(), seed, number, &mut tally)?;
+        let mut to = Pen::new(rt.alloc());
+        try_session(rt.alloc(), seed, number, &mut tally, &mut to)?;
+        out.write_all(to.bytes())?;
     }
-    println!(rt;
-        "{sessions} sessions with {} texts, {} of them refused",
-        tally.texts, tally.refused
-    )?;
-    println!(rt;
-        "{} runs: {} differ, {} do with a bit inverted",
-        tally.runs, tally.differ, tally.noticed
-    )?;
+    let mut to = Pen::new(rt.alloc());
+    put_tally(&mut to, sessions, tally);
+    out.write_all(to.bytes())?;
     Ok(tally.differ == 0 && tally.noticed == tally.runs)
 }
 

@@ -2,28 +2,26 @@
 use crate::conditions::{Named, filter, name_column};
 use crate::draws::Draws;
 use crate::pen::Pen;
-use crate::tables::Tables;
+use crate::tables::{Column, Tables};
 
-// Writes a field of a header.
-fn put_label(head: &mut Pen, pieces: &[&str]) {
+// Writes the label of a column into a header, with what stands before it and behind it.
+fn put_label(head: &mut Pen, front: &str, mark: &str, column: &str, end: &str) {
     let is_first = head.bytes().is_empty();
     head.put(if is_first { "\"" } else { ",\"" });
-    for piece in pieces {
-        head.put(piece);
-    }
+    head.put(front);
+    head.put(mark);
+    head.put(column);
+    head.put(end);
     head.put("\"");
 }
 
 // The first of these tables that has a column of this name, or the first of all.
 fn home(tables: &Tables, scope: &[&'static str], name: &str) -> &'static str {
-    for table in scope {
-        for column in tables.columns(table) {
-            if column.name == name {
-                return *table;
-            }
-        }
+    match scope {
+        [left, right] if !tables.has(left, name) && tables.has(right, name) => right,
+        [left, ..] => left,
+        [] => "",
     }
-    scope.first().copied().unwrap_or("")
 }
 
 // Writes one to three columns with their labels: after a join a label has the column's table.
@@ -43,9 +41,9 @@ fn put_list(
                 Some(table) => table,
                 None => home(tables, scope, column.column),
             };
-            put_label(head, &[table, ".", column.column]);
+            put_label(head, table, ".", column.column, "");
         } else {
-            put_label(head, &[column.column]);
+            put_label(head, "", "", column.column, "");
         }
     }
 }
@@ -56,12 +54,24 @@ fn put_all(tables: &Tables, scope: &[&'static str], text: &mut Pen, head: &mut P
     for table in scope {
         for column in tables.columns(table) {
             if scope.len() > 1 {
-                put_label(head, &[table, ".", column.name]);
+                put_label(head, table, ".", column.name, "");
             } else {
-                put_label(head, &[column.name]);
+                put_label(head, "", "", column.name, "");
             }
         }
     }
+}
+
+// Writes that two columns are equal.
+fn put_sides(left: &str, column: Column, right: &str, other: Column, text: &mut Pen) {
+    text.put(" ");
+    text.put(left);
+    text.put(".");
+    text.put(column.name);
+    text.put(" = ");
+    text.put(right);
+    text.put(".");
+    text.put(other.name);
 }
 
 // Writes the columns by which two tables are joined: the key of the left one, if it has any, and any of the other.
@@ -77,14 +87,11 @@ fn put_on(
         None => tables.column(draws, left),
     };
     let other = tables.column(draws, right);
-    let mut sides = [left, ".", key.name, " = ", right, ".", other.name];
-    if draws.chance(30) {
-        sides = [right, ".", other.name, " = ", left, ".", key.name];
-    }
     draws.keyword(text, "ON");
-    text.put(" ");
-    for side in sides {
-        text.put(side);
+    if draws.chance(30) {
+        put_sides(right, other, left, key, text);
+    } else {
+        put_sides(left, key, right, other, text);
     }
 }
 
@@ -127,7 +134,7 @@ fn put_aggregate(
     if draws.chance(20) {
         draws.keyword(text, "COUNT");
         text.put("(*)");
-        return put_label(head, &["COUNT(*)"]);
+        return put_label(head, "COUNT", "(", "*", ")");
     }
     // (of a text there is only a count)
     let drawn = draws.one(&["COUNT", "SUM", "MIN", "MAX"]);
@@ -137,7 +144,7 @@ fn put_aggregate(
     text.put("(");
     column.put(text);
     text.put(")");
-    put_label(head, &[word, "(", column.column, ")"]);
+    put_label(head, word, "(", column.column, ")");
 }
 
 /// Writes a SELECT of one to three aggregates, of all rows or of groups, whose key stands at any place.
@@ -158,7 +165,7 @@ pub fn totals(
         if has_groups && i == place {
             text.put(" ");
             key.put(text);
-            put_label(head, &[key.column]);
+            put_label(head, "", "", key.column, "");
         } else {
             put_aggregate(draws, tables, name, text, head);
         }

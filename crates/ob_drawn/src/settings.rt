@@ -30,35 +30,37 @@ pub struct Settings {
     pub batch: Option<u32>,
 }
 
+const SETTINGS: [(Kind, u32, u8, &str, u32, Option<u32>); 24] = [
+    (Kind::Flat, 64, 1, "auto", 32, None),
+    (Kind::Indexed, 64, 1, "auto", 32, None),
+    (Kind::Batched, 64, 1, "small", 32, Some(4)),
+    (Kind::Flat, 4, 1, "auto", 32, None),
+    (Kind::Batched, 4, 1, "small", 32, Some(65_535)),
+    (Kind::Indexed, 64, 16, "auto", 32, None),
+    (Kind::Flat, 7, 2, "auto", 32, None),
+    (Kind::Batched, 7, 2, "large", 32, Some(65_535)),
+    (Kind::Flat, 16, 4, "auto", 32, None),
+    (Kind::Indexed, 25, 1, "auto", 8, None),
+    (Kind::Batched, 16, 4, "small", 32, Some(2)),
+    (Kind::Flat, 10, 3, "cheapest", 32, None),
+    (Kind::Batched, 10, 3, "large", 32, Some(3)),
+    (Kind::Indexed, 17, 2, "small", 4, None),
+    (Kind::Flat, 64, 16, "auto", 32, None),
+    (Kind::Batched, 64, 16, "small", 32, Some(8)),
+    (Kind::Flat, 8, 1, "small", 32, None),
+    (Kind::Indexed, 80, 8, "large", 24, None),
+    (Kind::Batched, 8, 1, "small", 32, Some(2)),
+    (Kind::Flat, 8, 2, "large", 32, None),
+    (Kind::Batched, 5, 1, "large", 32, Some(4)),
+    (Kind::Indexed, 49, 3, "cheapest", 24, None),
+    (Kind::Flat, 5, 1, "cheapest", 32, None),
+    (Kind::Batched, 49, 16, "small", 32, Some(65_535)),
+];
+
 impl Settings {
     /// The settings of the session with this number.
     pub fn of_session(number: u64) -> Settings {
-        let (kind, buffer, pack, plan, stash, batch) = match number % 24 {
-            0 => (Kind::Flat, 64, 1, "auto", 32, None),
-            1 => (Kind::Indexed, 64, 1, "auto", 32, None),
-            2 => (Kind::Batched, 64, 1, "small", 32, Some(4)),
-            3 => (Kind::Flat, 4, 1, "auto", 32, None),
-            4 => (Kind::Batched, 4, 1, "small", 32, Some(65_535)),
-            5 => (Kind::Indexed, 64, 16, "auto", 32, None),
-            6 => (Kind::Flat, 7, 2, "auto", 32, None),
-            7 => (Kind::Batched, 7, 2, "large", 32, Some(65_535)),
-            8 => (Kind::Flat, 16, 4, "auto", 32, None),
-            9 => (Kind::Indexed, 25, 1, "auto", 8, None),
-            10 => (Kind::Batched, 16, 4, "small", 32, Some(2)),
-            11 => (Kind::Flat, 10, 3, "cheapest", 32, None),
-            12 => (Kind::Batched, 10, 3, "large", 32, Some(3)),
-            13 => (Kind::Indexed, 17, 2, "small", 4, None),
-            14 => (Kind::Flat, 64, 16, "auto", 32, None),
-            15 => (Kind::Batched, 64, 16, "small", 32, Some(8)),
-            16 => (Kind::Flat, 8, 1, "small", 32, None),
-            17 => (Kind::Indexed, 80, 8, "large", 24, None),
-            18 => (Kind::Batched, 8, 1, "small", 32, Some(2)),
-            19 => (Kind::Flat, 8, 2, "large", 32, None),
-            20 => (Kind::Batched, 5, 1, "large", 32, Some(4)),
-            21 => (Kind::Indexed, 49, 3, "cheapest", 24, None),
-            22 => (Kind::Flat, 5, 1, "cheapest", 32, None),
-            _ => (Kind::Batched, 49, 16, "small", 32, Some(65_535)),
-        };
+        let (kind, buffer, pack, plan, stash, batch) = SETTINGS[(number % 24) as usize];
         Settings {
             kind,
             buffer,

@@ -55,6 +55,16 @@ impl Tables {
         slice::from_ref(&self.strange)
     }
 
+    /// Whether one of them has this name.
+    pub fn has(&self, name: &str, column: &str) -> bool {
+        for it in self.columns(name) {
+            if it.name == column {
+                return true;
+            }
+        }
+        false
+    }
+
     /// One of its columns.
     pub fn column(&self, draws: &mut Draws, name: &str) -> Column {
         let columns = self.columns(name);
